@@ -1,0 +1,10 @@
+pub mod Lists
+pub mod Automaton
+pub mod TableOnDisk
+pub mod PairsLevelsTrimmed
+pub mod PairsComputed
+pub mod TrimComputed
+pub mod Reader
+pub mod ReaderComputed
+pub mod Shortest
+pub mod WorkedTable

@@ -1,0 +1,1 @@
+// The theory: definitions in specs/, laws in proofs/, and no function.
