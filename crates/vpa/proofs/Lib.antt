@@ -1,0 +1,15 @@
+pub mod Computed
+pub mod Lists
+pub mod Saturation
+pub mod Runs
+pub mod Renaming
+pub mod Trimming
+pub mod ReaderRuns
+pub mod TableMoves
+pub mod TablePairs
+pub mod TableLevels
+pub mod TrimmedStates
+pub mod TrimmedMoves
+pub mod TrimmedTable
+pub mod TableReader
+pub mod Lengths
