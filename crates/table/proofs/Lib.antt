@@ -1,0 +1,13 @@
+pub mod All
+pub mod CallLaws
+pub mod Computed
+pub mod Copied
+pub mod Entries
+pub mod Filled
+pub mod Ladder
+pub mod Order
+pub mod Parsing
+pub mod Parts
+pub mod Passes
+pub mod Reasons
+pub mod Tables

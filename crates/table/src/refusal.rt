@@ -1,0 +1,22 @@
+// The numbers of refusals, as document 01 has them.
+
+// Fewer than eight bytes, or not two more than the first number says.
+pub const LENGTH: u8 = 1;
+
+// A version that is not 1.
+pub const VERSION: u8 = 2;
+
+// More states, letters, marks or moves than a table may have.
+pub const LIMIT: u8 = 3;
+
+// The first number does not follow from the counts.
+pub const SIZE: u8 = 4;
+
+// In the lists of letters and of states, a kind that is none of 0 to 2 or a byte that is none of 0 to 3.
+pub const LIST: u8 = 5;
+
+// A move names a state, letter or mark past the table's, or is plain and its mark is not 0, or it does not stand above the move before it.
+pub const MOVE: u8 = 6;
+
+// The output has too little room for what is to be written.
+pub const ROOM: u8 = 9;
