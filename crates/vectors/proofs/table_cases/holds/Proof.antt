@@ -1,0 +1,20 @@
+use borrow.Author.Needs.{needs}
+use Prim.Native.Nat.{_≤_, _-_}
+use lib.ListN.{length}
+use Rattle.vectors.proofs.table_cases.holds.Statement.{statement}
+use Rattle.vectors.proofs.table_cases.holds.Tie as tie
+
+abbrev Inv-loop : tie.InvT-loop
+Inv-loop out table ok₀ i₀ i-end ok i = i ≤ length out
+
+abbrev μ-loop : tie.MeasureT-loop
+μ-loop out table ok₀ i₀ i-end ok i = length out - i
+
+pub holds-spec : {M : Type 1} → statement M
+holds-spec =
+    tie.close
+    (tie.spec
+    Inv-loop
+    μ-loop
+    (search needs) (search needs) (search needs) (search needs) (search needs) (search needs)
+    (search needs))

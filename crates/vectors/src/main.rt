@@ -1,0 +1,8 @@
+// Cases of what each library must answer, one line for each. The file `stdout` has the lines that must come.
+mod lines;
+mod table_cases;
+mod tables;
+
+fn main() {
+    table_cases::run();
+}

@@ -1,0 +1,185 @@
+// Tables to try: the two that document 01 has, these with a byte changed, and others that are made from their counts.
+ghost use Prim.Native.Nat.{_<_};
+
+pub const WORKED: [u8; 36] = [
+    0x00,
+    0x22,
+    0x01,
+    0x04,
+    0x04,
+    0x02,
+    0x00,
+    0x05,
+    0x00,
+    0x01,
+    0x02,
+    0x00,
+    0x01,
+    0x00,
+    0x02,
+    0x00,
+    0x00,
+    0x01,
+    0x00,
+    0x01,
+    0x00,
+    0x01,
+    0x01,
+    0x03,
+    0x01,
+    0x00,
+    0x00,
+    0x01,
+    0x01,
+    0x02,
+    0x00,
+    0x02,
+    0x03,
+    0x03,
+    0x00,
+    0x03,
+];
+
+pub const TRIMMED: [u8; 27] = [
+    0x00,
+    0x19,
+    0x01,
+    0x03,
+    0x04,
+    0x01,
+    0x00,
+    0x03,
+    0x00,
+    0x01,
+    0x02,
+    0x00,
+    0x01,
+    0x02,
+    0x00,
+    0x00,
+    0x01,
+    0x00,
+    0x02,
+    0x02,
+    0x00,
+    0x00,
+    0x02,
+    0x02,
+    0x02,
+    0x00,
+    0x01,
+];
+
+// One byte more than the largest table has.
+pub const LARGEST_AND_ONE: usize = 4201;
+
+// Places of the worked table.
+pub const VERSION_PLACE: usize = 2;
+
+pub const STATES_PLACE: usize = 3;
+
+pub const KINDS_PLACE: usize = 8;
+
+pub const LAST_KIND_PLACE: usize = 11;
+
+pub const LAST_STATE_PLACE: usize = 15;
+
+pub const MOVES_PLACE: usize = 16;
+
+// The bytes of a move.
+pub const FROM: u8 = 0;
+
+pub const LETTER: u8 = 1;
+
+pub const MARK: u8 = 2;
+
+pub const TO: u8 = 3;
+
+// The worked table with another byte at one place.
+pub fn worked_with(place: usize, byte: u8) -> [u8; 36] {
+    let mut table = WORKED;
+    if place < 36 {
+        table[place] = byte;
+    }
+    table
+}
+
+// The worked table with another byte in move k.
+pub fn changed(k: u8, field: u8, byte: u8) -> [u8; 36] {
+    worked_with(MOVES_PLACE + 4 * (k as usize) + field as usize, byte)
+}
+
+// The worked table with a byte after it, and L as given.
+pub fn longer_worked(l: u8) -> [u8; 37] {
+    let mut table = [0u8; 37];
+    table::write(&WORKED, &mut table);
+    table[1] = l;
+    table
+}
+
+// Two states, two open letters, two marks, and these two moves.
+pub fn of_two_moves(first: [u8; 4], second: [u8; 4]) -> [u8; 20] {
+    [
+        0,
+        18,
+        1,
+        2,
+        2,
+        2,
+        0,
+        2,
+        1,
+        1,
+        0,
+        0,
+        first[0],
+        first[1],
+        first[2],
+        first[3],
+        second[0],
+        second[1],
+        second[2],
+        second[3],
+    ]
+}
+
+// The number of bytes after L.
+pub fn length(states: u8, letters: u8, moves: u16) -> usize
+    ensures { λ r. ⌜ r < 1000000 ⌝ }
+{
+    6 + states as usize + letters as usize + 4 * (moves as usize)
+}
+
+// Every letter plain, no state initial or final, and the moves rise; L follows from the counts.
+pub fn of_counts(states: u8, letters: u8, marks: u8, moves: u16) -> [u8; LARGEST_AND_ONE] {
+    let mut table = [0u8; LARGEST_AND_ONE];
+    let l = length(states, letters, moves);
+    table[0] = low(l / 256);
+    table[1] = low(l);
+    table[2] = 1;
+    table[3] = states;
+    table[4] = letters;
+    table[5] = marks;
+    table[6] = low(moves as usize / 256);
+    table[7] = low(moves as usize);
+    put_moves(&mut table, states, letters, moves);
+    table
+}
+
+fn put_moves(table: &mut [u8; LARGEST_AND_ONE], states: u8, letters: u8, moves: u16) {
+    for k in 0..moves {
+        put_move(table, length(states, letters, k) + 2, k as usize);
+    }
+}
+
+// Move k goes from k / 64 to k % 64 by letter 0.
+fn put_move(table: &mut [u8; LARGEST_AND_ONE], place: usize, k: usize) {
+    if place < LARGEST_AND_ONE - 3 {
+        table[place] = low(k / 64);
+        table[place + 3] = low(k % 64);
+    }
+}
+
+fn low(n: usize) -> u8 {
+    (n % 256) as u8
+}
