@@ -1,0 +1,5 @@
+pub mod Digits
+pub mod Owned
+pub mod Relations
+pub mod RowsOf
+pub mod Walks
