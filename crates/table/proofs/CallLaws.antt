@@ -31,7 +31,7 @@ use Rattle.table.proofs.Reasons.{verdict-given, given-once}
 use Rattle.table.proofs.Tables.{good-back, good-states, good-letters, good-moves, good-part-length, good-part}
 
 -- An answer of the code is known by what it is in document 01, so two answers that meet one contract are the same.
-once : {A B : Type 0} (f : A → B) (back : B → A) → ((r : A) → back (f r) ≡ r) → (r q : A) {b : B} → f r ≡ b → f q ≡ b → r ≡ q
+pub once : {A B : Type 0} (f : A → B) (back : B → A) → ((r : A) → back (f r) ≡ r) → (r q : A) {b : B} → f r ≡ b → f q ≡ b → r ≡ q
 once f back h r q e d = sym (h r) ∙ ap back (e ∙ sym d) ∙ h q
 
 pub check-once : (s : List ℕ) (r q : Checked) → checkedAs r ≡ checkAnswer s → checkedAs q ≡ checkAnswer s → r ≡ q

@@ -1,14 +1,17 @@
 -- Bytes that the check lets through and tables that can be on disk are the same: what the crates above cite.
-use Prim.Native.Nat.{ℕ, _+_, _*_, _≤_}
-use mathlib.Core.List.{List}
-use mathlib.Core.Path.{_≡_}
+use Prim.Native.Nat.{ℕ, _+_, _*_, _<_, _≤_}
+use mathlib.Core.List.{List, List·Memᴰ}
+use mathlib.Core.Path.{_≡_, subst, _∙_}
+use native.Mathlib.Omega.{arith}
 use lib.ListN.{length}
-use Rattle.vpa.specs.TableOnDisk.{Table, stateCount, letterCount, IsTable}
+use Rattle.vpa.specs.TableOnDisk.{Entry, entry, Table, stateCount, letterCount, IsTable}
+use Rattle.vpa.proofs.Lists.{get-mem}
 use Rattle.table.specs.Bytes.{AreBytes}
-use Rattle.table.specs.Layout.{statesField, lettersField, movesField, movesPlace, movesPart, moveBytes, parse, unparse, mostBytes, Storable}
+use Rattle.table.specs.Layout.{statesField, lettersField, movesField, movesPlace, movesPart, moveBytes, entries, parse, unparse, mostBytes, Storable}
 use Rattle.table.specs.Refusals.{verdict}
-use Rattle.table.proofs.Entries.{moves-entries}
+use Rattle.table.proofs.Entries.{moveIn, entries-get, moves-entries}
 use Rattle.table.proofs.Parsing.{longest, part-length, parsed-states, parsed-letters, parsed-moves, parse-storable, unparse-parse, unparse-passes}
+use Rattle.table.proofs.Parts.{mem-get}
 use Rattle.table.proofs.Passes.{passes, verdict-of-passes, pass-size}
 
 module _ (s : List ℕ) (good : verdict s ≡ 0) where
@@ -43,6 +46,20 @@ module _ (s : List ℕ) (good : verdict s ≡ 0) where
   pub good-part : moveBytes ((parse s) .moves) ≡ movesPart s
   unfolding parse
   good-part = moves-entries (movesPart s) (movesField s) good-part-length
+
+  -- The moves are what stands in the moves' part, four bytes each.
+  pub move-here : (k : ℕ) → k < movesField s → List·Memᴰ (moveIn (movesPart s) (4 * k)) ((parse s) .moves)
+  unfolding parse
+  move-here k l =
+      subst (λ e. List·Memᴰ e (entries (movesPart s))) (entries-get _ (movesPart s) k (omega (arith, good-part-length)))
+      (get-mem (entry 0 0 0 0) (entries (movesPart s)) k (omega (arith, good-moves)))
+
+  pub move-place : {e : Entry} → List·Memᴰ e ((parse s) .moves) → (k : ℕ) × (k < movesField s) × (e ≡ moveIn (movesPart s) (4 * k))
+  unfolding parse
+  move-place m =
+      let w = mem-get (entry 0 0 0 0) m in
+      let l : w .0 < movesField s = omega (arith, w .1, good-moves) in
+      (w .0, l, w .2 ∙ entries-get _ (movesPart s) (w .0) (omega (arith, good-part-length)))
 
 pub storable-good : {t : Table} → Storable t → verdict (unparse t) ≡ 0
 storable-good r = verdict-of-passes (unparse-passes r)

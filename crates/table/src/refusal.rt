@@ -18,5 +18,8 @@ pub const LIST: u8 = 5;
 // A move names a state, letter or mark past the table's, or is plain and its mark is not 0, or it does not stand above the move before it.
 pub const MOVE: u8 = 6;
 
+// What is lent for the work, scratch or a reader's state, is too short.
+pub const LENT: u8 = 7;
+
 // The output has too little room for what is to be written.
 pub const ROOM: u8 = 9;

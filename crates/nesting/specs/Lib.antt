@@ -1,0 +1,4 @@
+pub mod Answers
+pub mod Calls
+pub mod Scratch
+pub mod Steps
