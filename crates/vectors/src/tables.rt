@@ -70,6 +70,105 @@ pub const TRIMMED: [u8; 27] = [
     0x01,
 ];
 
+// Both marks go between the same levels: each state opens itself and closes itself by either.
+pub const TWO_MARKS: [u8; 44] = [
+    0x00,
+    0x2a,
+    0x01,
+    0x02,
+    0x02,
+    0x02,
+    0x00,
+    0x08,
+    0x01,
+    0x02,
+    0x03,
+    0x03,
+    0x00,
+    0x00,
+    0x00,
+    0x00,
+    0x00,
+    0x00,
+    0x01,
+    0x00,
+    0x00,
+    0x01,
+    0x00,
+    0x00,
+    0x00,
+    0x01,
+    0x01,
+    0x00,
+    0x01,
+    0x00,
+    0x00,
+    0x01,
+    0x01,
+    0x00,
+    0x01,
+    0x01,
+    0x01,
+    0x01,
+    0x00,
+    0x01,
+    0x01,
+    0x01,
+    0x01,
+    0x01,
+];
+
+// A path from 0 to 6: plain, open, open, close, close, plain. From 0 no balanced pair leads to a close move, so the open move
+// from 1 to 0 is never closed.
+pub const NESTED_TWICE: [u8; 46] = [
+    0x00,
+    0x2c,
+    0x01,
+    0x07,
+    0x03,
+    0x01,
+    0x00,
+    0x07,
+    0x00,
+    0x01,
+    0x02,
+    0x01,
+    0x00,
+    0x00,
+    0x00,
+    0x00,
+    0x00,
+    0x02,
+    0x00,
+    0x00,
+    0x00,
+    0x01,
+    0x01,
+    0x01,
+    0x00,
+    0x00,
+    0x01,
+    0x01,
+    0x00,
+    0x02,
+    0x02,
+    0x01,
+    0x00,
+    0x03,
+    0x03,
+    0x02,
+    0x00,
+    0x04,
+    0x04,
+    0x02,
+    0x00,
+    0x05,
+    0x05,
+    0x00,
+    0x00,
+    0x06,
+];
+
 // One byte more than the largest table has.
 pub const LARGEST_AND_ONE: usize = 4201;
 
@@ -141,6 +240,29 @@ pub fn of_two_moves(first: [u8; 4], second: [u8; 4]) -> [u8; 20] {
         second[2],
         second[3],
     ]
+}
+
+// State 0 is initial and state 1 final, letter 0 opens and letter 1 closes, and there are these two moves.
+pub fn of_open_and_close(first: [u8; 4], second: [u8; 4]) -> [u8; 20] {
+    let mut table = of_two_moves(first, second);
+    table[9] = 2;
+    table[10] = 1;
+    table[11] = 2;
+    table
+}
+
+// How many bytes the chain has: one letter, 64 states, 63 moves.
+pub const CHAIN_BYTES: usize = 325;
+
+// 64 states, the first initial and the last final, and a plain move from each to the next.
+pub fn chain() -> [u8; LARGEST_AND_ONE] {
+    let mut table = of_counts(64, 1, 0, 63);
+    table[9] = 1;
+    table[72] = 2;
+    for k in 0..63 {
+        put_move(&mut table, 73 + 4 * k, 64 * k + k + 1);
+    }
+    table
 }
 
 // The number of bytes after L.

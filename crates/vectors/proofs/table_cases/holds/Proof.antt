@@ -1,4 +1,4 @@
-use borrow.Author.Needs.{needs}
+use native.Mathlib.Omega.{arith}
 use Prim.Native.Nat.{_≤_, _-_}
 use lib.ListN.{length}
 use Rattle.vectors.proofs.table_cases.holds.Statement.{statement}
@@ -16,5 +16,10 @@ holds-spec =
     (tie.spec
     Inv-loop
     μ-loop
-    (search needs) (search needs) (search needs) (search needs) (search needs) (search needs)
-    (search needs))
+    (λ c. omega arith)
+    (λ c. omega arith)
+    (λ c κs. tt)
+    (λ c. omega arith)
+    (λ c. omega arith)
+    (λ c. omega arith)
+    (λ c. tt))

@@ -1,4 +1,4 @@
-use borrow.Author.Needs.{needs}
+use native.Mathlib.Omega.{arith}
 use Prim.Native.Nat.{_≤_, _-_}
 use Rattle.vectors.proofs.tables.put_moves.Statement.{statement}
 use Rattle.vectors.proofs.tables.put_moves.Tie as tie
@@ -15,5 +15,12 @@ put-moves-spec =
     (tie.spec
     Inv-loop
     μ-loop
-    (search needs) (search needs) (search needs) (search needs) (search needs)
-    (search needs) (search needs) (search needs) (search needs))
+    (λ c. omega arith)
+    (λ c κs. tt)
+    (λ c. omega arith)
+    (λ c. omega arith)
+    (λ c κs. tt)
+    (λ c. omega arith)
+    (λ c. omega arith)
+    (λ c. omega arith)
+    (λ c. tt))
