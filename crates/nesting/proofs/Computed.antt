@@ -1,7 +1,7 @@
 -- A wrong program that no small change of the code gives: one that never finds a pair.
 use Prim.Native.Nat.{ℕ, _≤_, _<_}
 use mathlib.Core.List.{List}
-use mathlib.Core.Path.{_≡_, sym, subst}
+use mathlib.Core.Path.{_≡_, subst}
 use native.Mathlib.Omega.{arith}
 use lib.ListN.{length, replicate, length-replicate}
 use Rattle.vpa.specs.PairsLevelsTrimmed.{same}

@@ -7,7 +7,7 @@ use lib.ListN.{length}
 use Rattle.vpa.specs.Lists.{Pair, among, Distinct, distinct-none, distinct-more}
 use Rattle.vpa.proofs.Lists.{mem-of-among, among-of-mem}
 use Rattle.relation.specs.Relations.{Holds, HoldsExactly, IsRelation, With, sizeOf}
-use Rattle.relation.proofs.Relations.{holds-inside, same-relation, size-nothing, size-with}
+use Rattle.relation.proofs.Relations.{exactly, holds-inside, same-relation, size-nothing, size-with}
 use Rattle.relation.proofs.RowsOf.{rows-relation, rows-hold}
 use Rattle.nesting.specs.Calls.{rows}
 
@@ -34,7 +34,7 @@ listed-rows {xs = xs} is h = same-relation is (rows-relation _) h (rows-listed x
 
 -- The rows of a list hold what the rows of its tail hold, and its head.
 rows-more : (x : Pair) (xs : List Pair) → Inside (x ∷ xs) → HoldsExactly (rows (x ∷ xs)) (With (rows xs) (x .0) (x .1))
-rows-more x xs low = record { at = λ j k. (λ h. forth j k (all .at j k .0 h .member), λ w. all .at j k .1 (record { member = back j k (w .is) })) } where
+rows-more x xs low = exactly all (λ j k h. forth j k (h .member)) (λ j k w. record { member = back j k (w .is) }) where
   all : HoldsExactly (rows (x ∷ xs)) (Listed (x ∷ xs))
   all = rows-listed (x ∷ xs) low
 

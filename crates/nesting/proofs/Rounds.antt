@@ -14,7 +14,7 @@ use Rattle.vpa.specs.TableOnDisk.{Table, stateCount, initial?, final?, IsTable}
 use Rattle.relation.specs.Digits.{bit}
 use Rattle.relation.specs.Relations.{Holds, HoldsExactly, IsRelation, NoPair, Identity, Joined, Either, Both, Turned, sizeOf}
 use Rattle.relation.proofs.Digits.{bit-zero}
-use Rattle.relation.proofs.Relations.{holds-inside, size-most, size-grows, same-size, or-digit, and-digit}
+use Rattle.relation.proofs.Relations.{exactly, holds-inside, size-most, size-grows, same-size, or-digit, and-digit}
 use Rattle.nesting.specs.Calls.{rows}
 use Rattle.nesting.specs.Steps.{MoveOf, AroundBy, Around, PairStart, PairRound, TopBack, InitialBelow, Beside, OpenedBack, LevelRound}
 use Rattle.nesting.proofs.LevelSearch.{LevelsUnder, levels-exact}
@@ -24,7 +24,7 @@ use Rattle.nesting.proofs.PairSearch.{PairsUnder, pairs-exact}
 -- Around one mark, two joins; around all, one more with each mark.
 pub around-by : {t : Table} {before after : Kind} {γ : ℕ} {first r inner last s : List ℕ} → HoldsExactly first (MoveOf t before γ) → HoldsExactly inner (Joined first r)
     → HoldsExactly last (MoveOf t after γ) → HoldsExactly s (Joined inner last) → HoldsExactly s (AroundBy t before after r γ)
-around-by {t} {before} {after} {γ} {first} {r} {inner} {last} {s} a b c d = record { at = λ j l. (λ h. forth j l (d .at j l .0 h), λ w. d .at j l .1 (back j l w)) } where
+around-by {t} {before} {after} {γ} {first} {r} {inner} {last} {s} a b c d = exactly d forth back where
   forth : (j l : ℕ) → Joined inner last j l → AroundBy t before after r γ j l
   forth j l w =
       let v = b .at j (w .by) .0 (w .first) in
@@ -38,12 +38,12 @@ around-by {t} {before} {after} {γ} {first} {r} {inner} {last} {s} a b c d = rec
   }
 
 pub around-none : {t : Table} {before after : Kind} {r s : List ℕ} → HoldsExactly s NoPair → HoldsExactly s (Around t before after r 0)
-around-none h = record { at = λ j l. (λ x. elim (h .at j l .0 x) [ ], λ w. absurd (omega (arith, w .low))) }
+around-none h = exactly h (λ j l x. elim x [ ]) (λ j l w. absurd (omega (arith, w .low)))
 
 pub around-more : {t : Table} {before after : Kind} {r s one u : List ℕ} {n : ℕ} → HoldsExactly s (Around t before after r n) → HoldsExactly one (AroundBy t before after r n)
     → HoldsExactly u (Either s one) → HoldsExactly u (Around t before after r (n + 1))
 around-more {t} {before} {after} {r} {s} {one} {u} {n} h o e =
-    record { at = λ j l. (λ x. forth j l (e .at j l .0 x .is), λ w. e .at j l .1 (record { is = back j l w (eq-or-lt-of-le (omega (arith, w .low))) })) } where
+    exactly e (λ j l x. forth j l (x .is)) (λ j l w. record { is = back j l w (eq-or-lt-of-le (omega (arith, w .low))) }) where
       forth : (j l : ℕ) → Holds s j l ⊎ Holds one j l → Around t before after r (n + 1) j l
       forth j l (inl x) = let w = h .at j l .0 x in record { γ = w .γ; low = omega (arith, w .low); by = w .by }
       forth j l (inr x) = record { γ = n; low = omega arith; by = o .at j l .0 x }
@@ -55,17 +55,14 @@ around-more {t} {before} {after} {r} {s} {one} {u} {n} h o e =
 -- The searches: their starts and rounds.
 pub pair-start : {t : Table} {n : ℕ} {own moves s : List ℕ} → n ≡ stateCount t → HoldsExactly own (Identity n) → HoldsExactly moves (MoveOf t plain 0)
     → HoldsExactly s (Either own moves) → HoldsExactly s (PairStart t)
-pair-start e a b h = record {
-  at = λ j k. (
-    λ x. record { is = ⊎-elim (λ y. inl (rw (← e) (a .at j k .0 y))) (λ y. inr (b .at j k .0 y)) (h .at j k .0 x .is) },
-    λ w. h .at j k .1 (record { is = ⊎-elim (λ y. inl (a .at j k .1 (rw e y))) (λ y. inr (b .at j k .1 y)) (w .is) }),
-  );
-}
+pair-start e a b h =
+    exactly h (λ j k x. record { is = ⊎-elim (λ y. inl (rw (← e) (a .at j k .0 y))) (λ y. inr (b .at j k .0 y)) (x .is) })
+    (λ j k w. record { is = ⊎-elim (λ y. inl (a .at j k .1 (rw e y))) (λ y. inr (b .at j k .1 y)) (w .is) })
 
 pub pair-round : {t : Table} {g : ℕ} {r nested joined more s : List ℕ} → g ≡ t .markCount → HoldsExactly nested (Around t opening closing r g) → HoldsExactly joined (Joined r r)
     → HoldsExactly more (Either joined nested) → HoldsExactly s (Either r more) → HoldsExactly s (PairRound t r)
 pair-round {t} {g} {r} {nested} {joined} {more} e a b c h =
-    record { at = λ j k. (λ x. record { is = ⊎-elim inl (λ y. inr (forth j k (c .at j k .0 y .is))) (h .at j k .0 x .is) }, λ w. h .at j k .1 (record { is = back j k (w .is) })) } where
+    exactly h (λ j k x. record { is = ⊎-elim inl (λ y. inr (forth j k (c .at j k .0 y .is))) (x .is) }) (λ j k w. record { is = back j k (w .is) }) where
       forth : (j k : ℕ) → Holds joined j k ⊎ Holds nested j k → Joined r r j k ⊎ Around t opening closing r (t .markCount) j k
       forth j k (inl y) = inl (b .at j k .0 y)
       forth j k (inr y) = inr (subst (λ g. Around t opening closing r g j k) e (a .at j k .0 y))

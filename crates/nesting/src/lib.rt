@@ -1,7 +1,8 @@
 // The balanced pairs and the live levels of a table.
 //
-// `pairs_and_levels` is the call. `balanced_pairs`, `live_levels` and `clear` serve the crates above; the first two ask for a table that was checked.
-// In what order the two search is known to nothing but the functions that they call.
+// `pairs_and_levels` is the call. `balanced_pairs`, `live_levels`, `moves_of` and `clear` serve the crates above. The first three ask for a table that was
+// checked, and for its counts, its pairs or the number of a kind; `clear` asks for enough scratch.
+// In what order the first two search is known to nothing but the functions that they call.
 ghost use Prim.Native.Nat.{ℕ, _+_, _<_, _≤_};
 ghost use lib.Dec.{T};
 ghost use lib.ListN.{length, replicate};
@@ -29,9 +30,9 @@ pub const SCRATCH: usize = 16384;
 // The numbers of kinds.
 const PLAIN: u8 = 0;
 
-const OPEN: u8 = 1;
+pub const OPEN: u8 = 1;
 
-const CLOSE: u8 = 2;
+pub const CLOSE: u8 = 2;
 
 // How many balanced pairs and live levels there are.
 pub struct Sizes {
@@ -246,7 +247,7 @@ fn around_by(table: &[u8], mark: usize, first: u8, r: [u64; 64], last: u8) -> [u
 }
 
 // The moves of a kind and a mark.
-fn moves_of(table: &[u8], kind: u8, mark: usize) -> [u64; 64]
+pub fn moves_of(table: &[u8], kind: u8, mark: usize) -> [u64; 64]
     requires { ⌜ (verdict (now table) ≡ 0) × (kind ≤ 2) ⌝ }
     ensures { λ r. ⌜ HoldsExactly r (MoveOf (parse (now (table .entry))) (kindNumbered kind) mark) ⌝ }
 {

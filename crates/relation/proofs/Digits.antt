@@ -131,6 +131,16 @@ lowest (suc n) z p l = go (z % 2) refl (λ e. lowest n (z / 2) (omega arith) (ha
     go zero e h = even n z p e (h e)
     go (suc d) e h = odd n z p (omega arith)
 
+pub before-lowest : (n z k : ℕ) → k < trailingZeros n z → bit z k ≡ 0
+unfolding trailingZeros
+before-lowest zero z k l = absurd (omega arith)
+before-lowest (suc n) z k l = go (z % 2) refl k l (before-lowest n (z / 2))
+  where
+    go : (d : ℕ) → z % 2 ≡ d → (k : ℕ) → k < under d (trailingZeros n (z / 2)) → ((k : ℕ) → k < trailingZeros n (z / 2) → bit (z / 2) k ≡ 0) → bit z k ≡ 0
+    go (suc d) e k l h = absurd (omega arith)
+    go zero e zero l h = bit-low z ∙ e
+    go zero e (suc k) l h = bit-high z k ∙ h k (omega arith)
+
 -- A walk over the digits of x from the lowest: z has those that are still to come.
 pub record Walked (x z i : ℕ) : Type 0 where
   pub had : bit x i ≡ 1

@@ -1,13 +1,12 @@
 -- Laws of relations held as rows: what is held lies in range, decides the array, and is counted by its size; and how arrays come to hold what they should.
 use Prim.Native.Nat.{ℕ, zero, suc, _+_, _*_, _%_, _^_, _≤_, _<_}
-use mathlib.Core.Bool.{true, false}
 use mathlib.Core.List.{List}
 use mathlib.Core.Logic.{_↔_, _⊎_, inl, inr, ⊎-elim}
 use mathlib.Core.Path.{_≡_, refl, sym, ap, _∙_}
 use native.Mathlib.Decide.{ℕ-discrete, decLt}
 use native.Mathlib.Omega.{arith}
-use borrow.Author.Tests.{eqb-true, eqb-false}
 use lib.Bits.{bitOr, bitAnd, or-lt, and-le-l}
+use lib.Dec.{T, eqb→eq}
 use lib.ListN.{getD, set, replicate, length-set, List·getD-eq-default}
 use lib.Pow.{pow-lt}
 use lib.Seq.{ext-getD, getD-set-same, getD-set-other}
@@ -15,13 +14,13 @@ use Rattle.relation.specs.Digits.{bit, total}
 use Rattle.relation.specs.Relations.{Holds, holds?, HoldsExactly, IsRelation, NoPair, Identity, With, Either, Both, sizeOf}
 use Rattle.relation.proofs.Digits.{bit-lt, bit-or, bit-and, bit-zero, bit-pow-same, bit-pow-other, one-shifted, bit-inside, bit-ext, total-most, total-grows, total-same, total-equal, total-one-more}
 
-pub held-by-test : {r : List ℕ} {j k : ℕ} → holds? r j k ≡ true → Holds r j k
+pub held-iff-test : (r : List ℕ) (j k : ℕ) → T (holds? r j k) ↔ Holds r j k
 unfolding holds?
-held-by-test e = record { digit = eqb-true _ _ e }
+held-iff-test r j k = (λ h. record { digit = eqb→eq (bit (getD r j 0) k) 1 h }, λ h. rw (h .digit) tt)
 
-pub not-held-by-test : {r : List ℕ} {j k : ℕ} → holds? r j k ≡ false → Holds r j k → ⊥
-unfolding holds?
-not-held-by-test e h = eqb-false _ _ e (h .digit)
+-- What holds exactly one thing holds exactly what says the same.
+pub exactly : {r : List ℕ} {P Q : ℕ → ℕ → Type 0} → HoldsExactly r P → ((j k : ℕ) → P j k → Q j k) → ((j k : ℕ) → Q j k → P j k) → HoldsExactly r Q
+exactly h f g = record { at = λ j k. (λ x. f j k (h .at j k .0 x), λ y. h .at j k .1 (g j k y)) }
 
 -- Nothing is held past the last row or the last digit.
 pub holds-inside : {r : List ℕ} → IsRelation r → {j k : ℕ} → Holds r j k → (j < 64) × (k < 64)

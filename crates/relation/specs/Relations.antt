@@ -12,7 +12,7 @@ use Rattle.relation.specs.Digits.{bit, total, digits}
 pub record Holds (r : List ℕ) (j k : ℕ) : Type 0 where
   pub digit : bit (getD r j 0) k ≡ 1
 
--- The test for it (`held-by-test`, `not-held-by-test`).
+-- The test for it (`held-iff-test`).
 unfoldable pub holds? : List ℕ → ℕ → ℕ → Bool
 holds? r j k = eqb (bit (getD r j 0) k) 1
 

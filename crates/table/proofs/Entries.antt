@@ -16,6 +16,7 @@ use Rattle.table.specs.Bytes.{byte, quad, part}
 use Rattle.vpa.proofs.Lists.{get-mem}
 use Rattle.table.specs.Layout.{entries, moveBytes}
 use Rattle.table.proofs.Order.{number}
+use Rattle.table.proofs.Parts.{mem-get}
 
 module _ {X : Type 0} (d : X) where
   got : (xs : List X) (k : ℕ) {x : X} → getElem? xs k ≡ some x → getD xs k d ≡ x
@@ -36,10 +37,14 @@ module _ {X : Type 0} (d : X) where
         above x (z ∷ zs) h y (List·Memᴰ·head e) = subst (R x) (sym e) (h 0 (omega arith))
         above x (z ∷ zs) h y (List·Memᴰ·tail m) = trans x z y (h 0 (omega arith)) (above z zs (λ k l. h (suc k) (omega arith)) y m)
 
+    pub sorted-apart : {xs : List X} → Sorted R xs → (j k : ℕ) → j < k → k < length xs → R (getD xs j d) (getD xs k d)
+    sorted-apart sorted-none j k l m = absurd (omega arith)
+    sorted-apart (sorted-more n r) j zero l m = absurd (omega arith)
+    sorted-apart (sorted-more {xs = xs} n r) zero (suc k) l m = n (getD xs k d) (get-mem d xs k (omega arith))
+    sorted-apart (sorted-more n r) (suc j) (suc k) l m = sorted-apart r j k (omega arith) (omega arith)
+
     pub sorted-rising : {xs : List X} → Sorted R xs → Rising xs
-    sorted-rising sorted-none k h = absurd (omega arith)
-    sorted-rising (sorted-more {x} {xs} n r) zero h = n (getD xs 0 d) (get-mem d xs 0 (omega arith))
-    sorted-rising (sorted-more {x} {xs} n r) (suc k) h = sorted-rising r k (omega arith)
+    sorted-rising h k l = sorted-apart h k (suc k) (omega arith) l
 
 -- Moves as bytes and back.
 pub entries-moves : (es : List Entry) → entries (moveBytes es) ≡ es
@@ -60,8 +65,16 @@ moves-entries (p ∷ a ∷ []) t h = absurd (omega arith)
 moves-entries (p ∷ a ∷ γ ∷ []) t h = absurd (omega arith)
 moves-entries (p ∷ a ∷ γ ∷ q ∷ u) t h = ap {B = List ℕ} (λ r. p ∷ a ∷ γ ∷ q ∷ r) (moves-entries u (t - 1) (omega arith))
 
+pub count-entries : (u : List ℕ) → length (entries u) ≡ length u / 4
+unfolding entries
+count-entries [] = refl
+count-entries (p ∷ []) = refl
+count-entries (p ∷ a ∷ []) = refl
+count-entries (p ∷ a ∷ γ ∷ []) = refl
+count-entries (p ∷ a ∷ γ ∷ q ∷ u) = omega (arith, count-entries u)
+
 pub length-entries : (u : List ℕ) (t : ℕ) → length u ≡ 4 * t → length (entries u) ≡ t
-length-entries u t h = let e = ap length (moves-entries u t h) in omega (arith, length-moves (entries u))
+length-entries u t h = omega (arith, count-entries u)
 
 -- The move in the four bytes at place i.
 abbrev pub moveIn : List ℕ → ℕ → Entry
@@ -94,6 +107,16 @@ entry-at (p ∷ a ∷ γ ∷ q ∷ u) (suc k) =
 
 pub entries-get : (d : Entry) (u : List ℕ) (k : ℕ) → k < length u / 4 → getD (entries u) k d ≡ moveIn u (4 * k)
 entries-get d u k h = got d (entries u) k (entry-at u k ∙ rw lt-ltb)
+
+-- The moves are what stands in the bytes, four bytes each.
+pub entry-here : (u : List ℕ) (k : ℕ) → k < length u / 4 → List·Memᴰ (moveIn u (4 * k)) (entries u)
+entry-here u k l = subst (λ e. List·Memᴰ e (entries u)) (entries-get _ u k l) (get-mem (entry 0 0 0 0) (entries u) k (omega (arith, count-entries u)))
+
+pub entry-place : (u : List ℕ) {e : Entry} → List·Memᴰ e (entries u) → (k : ℕ) × (k < length u / 4) × (e ≡ moveIn u (4 * k))
+entry-place u m =
+    let w = mem-get (entry 0 0 0 0) m in
+    let l : w .0 < length u / 4 = omega (arith, w .1, count-entries u) in
+    (w .0, l, w .2 ∙ entries-get _ u (w .0) l)
 
 pub quad-number : (s : List ℕ) (i : ℕ) → quad s i ≡ number (moveIn s i)
 quad-number s i = let e : i + 2 + 1 ≡ i + 3 = omega arith in rw e

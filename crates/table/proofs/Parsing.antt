@@ -215,6 +215,9 @@ low-moves (e ∷ es) h =
     low-more (e .from) (r .from) (low-more (e .letter) (r .letter) (low-more (e .mark) (r .mark) (low-more (e .to) (r .to)
     (low-moves es (λ d m. h d (List·Memᴰ·tail m))))))
 
+pub moves-bytes : {t : Table} → Storable t → AreBytes (moveBytes (t .moves))
+moves-bytes {t} r = low-bytes (low-moves (t .moves) (storable-small r))
+
 pub unparse-bytes : {t : Table} → Storable t → AreBytes (unparse t)
 unfolding unparse
 unparse-bytes {t} r =

@@ -1,17 +1,15 @@
 -- Bytes that the check lets through and tables that can be on disk are the same: what the crates above cite.
 use Prim.Native.Nat.{ℕ, _+_, _*_, _<_, _≤_}
 use mathlib.Core.List.{List, List·Memᴰ}
-use mathlib.Core.Path.{_≡_, subst, _∙_}
+use mathlib.Core.Path.{_≡_}
 use native.Mathlib.Omega.{arith}
 use lib.ListN.{length}
-use Rattle.vpa.specs.TableOnDisk.{Entry, entry, Table, stateCount, letterCount, IsTable}
-use Rattle.vpa.proofs.Lists.{get-mem}
+use Rattle.vpa.specs.TableOnDisk.{Entry, Table, stateCount, letterCount, IsTable}
 use Rattle.table.specs.Bytes.{AreBytes}
-use Rattle.table.specs.Layout.{statesField, lettersField, movesField, movesPlace, movesPart, moveBytes, entries, parse, unparse, mostBytes, Storable}
+use Rattle.table.specs.Layout.{statesField, lettersField, movesField, movesPlace, movesPart, moveBytes, parse, unparse, mostBytes, Storable}
 use Rattle.table.specs.Refusals.{verdict}
-use Rattle.table.proofs.Entries.{moveIn, entries-get, moves-entries}
+use Rattle.table.proofs.Entries.{moves-entries, moveIn, entry-here, entry-place}
 use Rattle.table.proofs.Parsing.{longest, part-length, parsed-states, parsed-letters, parsed-moves, parse-storable, unparse-parse, unparse-passes}
-use Rattle.table.proofs.Parts.{mem-get}
 use Rattle.table.proofs.Passes.{passes, verdict-of-passes, pass-size}
 
 module _ (s : List ℕ) (good : verdict s ≡ 0) where
@@ -50,16 +48,11 @@ module _ (s : List ℕ) (good : verdict s ≡ 0) where
   -- The moves are what stands in the moves' part, four bytes each.
   pub move-here : (k : ℕ) → k < movesField s → List·Memᴰ (moveIn (movesPart s) (4 * k)) ((parse s) .moves)
   unfolding parse
-  move-here k l =
-      subst (λ e. List·Memᴰ e (entries (movesPart s))) (entries-get _ (movesPart s) k (omega (arith, good-part-length)))
-      (get-mem (entry 0 0 0 0) (entries (movesPart s)) k (omega (arith, good-moves)))
+  move-here k l = entry-here (movesPart s) k (omega (arith, good-part-length))
 
   pub move-place : {e : Entry} → List·Memᴰ e ((parse s) .moves) → (k : ℕ) × (k < movesField s) × (e ≡ moveIn (movesPart s) (4 * k))
   unfolding parse
-  move-place m =
-      let w = mem-get (entry 0 0 0 0) m in
-      let l : w .0 < movesField s = omega (arith, w .1, good-moves) in
-      (w .0, l, w .2 ∙ entries-get _ (movesPart s) (w .0) (omega (arith, good-part-length)))
+  move-place m = let w = entry-place (movesPart s) m in (w .0, omega (arith, w .1, good-part-length), w .2)
 
 pub storable-good : {t : Table} → Storable t → verdict (unparse t) ≡ 0
 storable-good r = verdict-of-passes (unparse-passes r)

@@ -52,7 +52,10 @@ const MARKS_FIELD: usize = 5;
 
 const MOVES_FIELD: usize = 6;
 
-const KINDS_PLACE: usize = 8;
+pub const KINDS_PLACE: usize = 8;
+
+// The version of a table that is accepted, and of one that is made.
+pub const VERSION: u8 = 1;
 
 pub enum Checked {
     Refused(u8),
@@ -246,7 +249,11 @@ fn head_verdict(table: &[u8]) -> u8
 {
     let from_size = rung(is_sized(table), refusal::SIZE, 0);
     let from_limit = rung(is_small(table), refusal::LIMIT, from_size);
-    let from_version = rung(at(table, VERSION_FIELD) == 1, refusal::VERSION, from_limit);
+    let from_version = rung(
+        at(table, VERSION_FIELD) == VERSION,
+        refusal::VERSION,
+        from_limit,
+    );
     rung(is_whole(table), refusal::LENGTH, from_version)
 }
 

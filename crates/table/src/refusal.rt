@@ -21,5 +21,8 @@ pub const MOVE: u8 = 6;
 // What is lent for the work, scratch or a reader's state, is too short.
 pub const LENT: u8 = 7;
 
+// A table that was made has more states, marks or moves than a table may have.
+pub const LARGE: u8 = 8;
+
 // The output has too little room for what is to be written.
 pub const ROOM: u8 = 9;

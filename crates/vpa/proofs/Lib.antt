@@ -13,3 +13,4 @@ pub mod TrimmedMoves
 pub mod TrimmedTable
 pub mod TableReader
 pub mod Lengths
+pub mod Each
