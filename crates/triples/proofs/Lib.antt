@@ -1,0 +1,5 @@
+pub mod DigitLists
+pub mod Laying
+pub mod Marks
+pub mod Numbers
+pub mod Rows
