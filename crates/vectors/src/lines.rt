@@ -15,6 +15,17 @@ pub fn next_number(n: usize) {
     number(n);
 }
 
+// Two hexadecimal digits for each byte.
+pub fn hex(bytes: &[u8]) {
+    for i in 0..bytes.len() {
+        two_digits(bytes[i]);
+    }
+}
+
+fn two_digits(byte: u8) {
+    io::print_hex(STDOUT_FILENO, byte as u64, 2);
+}
+
 pub fn label(words: &[u8]) {
     text(words);
     text(b": ");

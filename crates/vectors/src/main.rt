@@ -3,8 +3,10 @@ mod lines;
 mod nesting_cases;
 mod table_cases;
 mod tables;
+mod trim_cases;
 
 fn main() {
     table_cases::run();
     nesting_cases::run();
+    trim_cases::run();
 }

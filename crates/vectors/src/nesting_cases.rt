@@ -11,10 +11,10 @@ use nesting::Found;
 use nesting::Nesting;
 
 // What scratch holds before it is lent.
-const UNTOUCHED: u16 = 7;
+pub const UNTOUCHED: u16 = 7;
 
 // How many numbers of scratch document 01 has cleared.
-const CLEARED: usize = 16384;
+pub const CLEARED: usize = 16384;
 
 // Every digit is 1.
 const FULL_ROW: u64 = 18446744073709551615;
@@ -100,7 +100,7 @@ fn show_lent(label: &[u8], table: &[u8], scratch: &mut [u16]) {
     let answer = nesting::pairs_and_levels(table, scratch);
     show_answer(answer);
     let found = answer.found;
-    show_scratch(found, scratch);
+    show_scratch(cleared(found), scratch);
 }
 
 fn show_answer(answer: Nesting) {
@@ -158,11 +158,14 @@ fn show_pair(j: usize, k: usize) {
     lines::text(b")");
 }
 
-fn show_scratch(found: Found, scratch: &[u16]) {
-    let zeros = match found {
+fn cleared(found: Found) -> usize {
+    match found {
         Found::Refused(_) => 0,
         Found::Sizes(_) => CLEARED,
-    };
+    }
+}
+
+pub fn show_scratch(zeros: usize, scratch: &[u16]) {
     if !holds(scratch, zeros) {
         lines::answer(b", other scratch");
     } else if zeros == 0 {

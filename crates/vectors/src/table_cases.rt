@@ -20,7 +20,7 @@ use table::Table;
 use table::Written;
 
 // What an output holds before a table is written to it.
-const UNTOUCHED: u8 = 0xAA;
+pub const UNTOUCHED: u8 = 0xAA;
 
 pub fn run() {
     fronts();
@@ -271,11 +271,15 @@ fn show_front(size: usize) {
 }
 
 fn show_answer(table: &[u8]) {
+    show_checked(table);
+    lines::end();
+}
+
+pub fn show_checked(table: &[u8]) {
     match table::check(table) {
         Checked::Refused(number) => lines::refused(number),
         Checked::Good(counts) => show_counts(counts),
     }
-    lines::end();
 }
 
 fn show_counts(counts: Table) {
@@ -376,7 +380,7 @@ fn show_output(is_so: bool, words: &[u8]) {
 }
 
 // Whether all of out is the table and then bytes as they were.
-fn holds(out: &[u8], table: &[u8]) -> bool {
+pub fn holds(out: &[u8], table: &[u8]) -> bool {
     let mut ok = table.len() <= out.len();
     for i in 0..out.len() {
         ok = ok & (out[i] == expected(table, i));
@@ -389,7 +393,7 @@ fn expected(table: &[u8], i: usize) -> u8 {
 }
 
 // The first bytes of a slice, or all of a shorter one.
-fn front(bytes: &[u8], size: usize) -> &[u8] {
+pub fn front(bytes: &[u8], size: usize) -> &[u8] {
     if size < bytes.len() {
         &bytes[0..size]
     } else {

@@ -169,6 +169,71 @@ pub const NESTED_TWICE: [u8; 46] = [
     0x06,
 ];
 
+// From state 1 to state 0. Of the live levels (0,0), (0,1) and (1,0) two begin in 0 and two end there.
+pub const TWO_ENDS: [u8; 28] = [
+    0x00,
+    0x1a,
+    0x01,
+    0x02,
+    0x02,
+    0x02,
+    0x00,
+    0x04,
+    0x01,
+    0x02,
+    0x02,
+    0x01,
+    0x00,
+    0x00,
+    0x01,
+    0x00,
+    0x00,
+    0x01,
+    0x01,
+    0x01,
+    0x01,
+    0x00,
+    0x00,
+    0x00,
+    0x01,
+    0x01,
+    0x00,
+    0x00,
+];
+
+// The same with a plain letter put first that no move has.
+pub const UNUSED_LETTER: [u8; 29] = [
+    0x00,
+    0x1b,
+    0x01,
+    0x02,
+    0x03,
+    0x02,
+    0x00,
+    0x04,
+    0x00,
+    0x01,
+    0x02,
+    0x02,
+    0x01,
+    0x00,
+    0x01,
+    0x01,
+    0x00,
+    0x00,
+    0x02,
+    0x01,
+    0x01,
+    0x01,
+    0x01,
+    0x00,
+    0x00,
+    0x01,
+    0x02,
+    0x00,
+    0x00,
+];
+
 // One byte more than the largest table has.
 pub const LARGEST_AND_ONE: usize = 4201;
 
@@ -263,6 +328,84 @@ pub fn chain() -> [u8; LARGEST_AND_ONE] {
         put_move(&mut table, 73 + 4 * k, 64 * k + k + 1);
     }
     table
+}
+
+// How many bytes the next table has: 32 letters, 64 states, 2 moves.
+pub const LAST_BYTES: usize = 112;
+
+// As many states, letters and marks as a table may have. State 63 opens itself and closes itself by mark 63.
+pub fn last_of_each() -> [u8; LARGEST_AND_ONE] {
+    let mut table = of_counts(64, 32, 64, 2);
+    table[38] = 1;
+    table[39] = 2;
+    table[103] = 3;
+    put_move(&mut table, 104, 4095);
+    table[105] = 30;
+    table[106] = 63;
+    put_move(&mut table, 108, 4095);
+    table[109] = 31;
+    table[110] = 63;
+    table
+}
+
+// Of the moves from each state to each of the first `targets` states, by each letter and with each mark, the first `moves` in order. State 0 is initial
+// and final; `others` is the byte of each other state that has a move.
+pub fn of_all_moves(
+    states: u8,
+    letters: u8,
+    marks: u8,
+    targets: u8,
+    moves: u16,
+    others: u8,
+) -> [u8; LARGEST_AND_ONE] {
+    let mut table = of_counts(states, letters, marks, moves);
+    for k in 0..moves {
+        let place = length(states, letters, k) + 2;
+        put_one_of_all(
+            &mut table,
+            place,
+            k as usize,
+            letters,
+            marks,
+            targets,
+            others,
+        );
+    }
+    table
+}
+
+fn put_one_of_all(
+    table: &mut [u8; LARGEST_AND_ONE],
+    place: usize,
+    k: usize,
+    letters: u8,
+    marks: u8,
+    targets: u8,
+    others: u8,
+) {
+    let mark = over(k, targets);
+    let letter = over(mark, marks);
+    let from = low(over(letter, letters));
+    put_state(table, letters, from, others);
+    if place < LARGEST_AND_ONE - 3 {
+        table[place] = from;
+        table[place + 1] = left(letter, letters);
+        table[place + 2] = left(mark, marks);
+        table[place + 3] = left(k, targets);
+    }
+}
+
+fn put_state(table: &mut [u8; LARGEST_AND_ONE], letters: u8, state: u8, others: u8) {
+    let place = 8 + letters as usize + state as usize;
+    table[place] = if state == 0 { 3 } else { others };
+}
+
+fn over(n: usize, by: u8) -> usize {
+    if by == 0 { 0 } else { n / by as usize }
+}
+
+fn left(n: usize, by: u8) -> u8 {
+    if by == 0 { 0 } else { low(n % by as usize) }
 }
 
 // The number of bytes after L.
