@@ -3,11 +3,11 @@ use Prim.Native.Nat.{ℕ, _+_, _<_, _≤_}
 use mathlib.Core.List.{List, _++_}
 use mathlib.Core.Path.{_≡_, refl, sym, ap, _∙_}
 use native.Mathlib.Omega.{arith}
-use lib.ListN.{length, set, take, drop, replicate, getD, length-set, length-replicate, List·getD-append}
-use lib.Seq.{drop-at}
+use lib.ListN.{length, set, take, drop, replicate, getD, length-set, length-drop, length-replicate, List·getD-append}
+use lib.Seq.{drop-at, getD-drop, ext-getD}
 use Rattle.table.proofs.Copied.{copied-more, copied-all}
 use Rattle.relation.proofs.Relations.{zero-row}
-use Rattle.nesting.specs.Scratch.{scratchSize, cleared}
+use Rattle.nesting.specs.Scratch.{scratchSize, cleared, KeptFrom}
 
 pub scratch-size : scratchSize ≡ 16384
 unfolding scratchSize
@@ -48,3 +48,20 @@ cleared-zero scratch i l =
 pub cleared-rest : (scratch : List ℕ) → drop scratchSize (cleared scratch) ≡ drop scratchSize scratch
 unfolding cleared
 cleared-rest scratch = drop-at (replicate scratchSize 0) (drop scratchSize scratch) scratchSize zeros-length
+
+-- What is kept from a place on.
+pub kept-none : (place : ℕ) (s : List ℕ) → KeptFrom place s s
+kept-none place s = record { long = refl; rest = λ i l. refl }
+
+pub kept-then : {p : ℕ} {a b c : List ℕ} → KeptFrom p a b → KeptFrom p b c → KeptFrom p a c
+kept-then f g = record { long = g .long ∙ f .long; rest = λ i l. g .rest i l ∙ f .rest i l }
+
+pub kept-more : {p q : ℕ} {a b : List ℕ} → p ≤ q → KeptFrom p a b → KeptFrom q a b
+kept-more l h = record { long = h .long; rest = λ i m. h .rest i (omega arith) }
+
+pub kept-drop : {p q : ℕ} {a b : List ℕ} → KeptFrom p a b → p ≤ q → drop q b ≡ drop q a
+kept-drop {q = q} {a} {b} h l = ext-getD 0 (drop q b) (drop q a) (simp length-drop (omega (arith, h .long))) (λ i m. simp getD-drop (h .rest (q + i) (omega arith)))
+
+pub kept-cleared : {p : ℕ} {a b : List ℕ} → KeptFrom p a b → p ≤ scratchSize → cleared b ≡ cleared a
+unfolding cleared
+kept-cleared h l = ap (λ (x : List ℕ). replicate scratchSize 0 ++ x) (kept-drop h l)

@@ -14,8 +14,8 @@ use Rattle.table.proofs.CallLaws.{given-verdict, on-good, on-bad}
 use Rattle.nesting.specs.Scratch.{scratchSize, withScratch}
 
 -- What is no table is refused with the number of the bytes, however long the scratch. A table with short scratch is refused with 7, and the call goes
--- on with a table and enough of it.
-module _ {X : Type 0} (s scratch : List ℕ) (x : X) (f : ℕ → X) where
+-- on with a table and enough of it. (X may be Type 0 itself, where a contract is a type for each case.)
+module _ {ℓ} {X : Type ℓ} (s scratch : List ℕ) (x : X) (f : ℕ → X) where
   pub on-no-table : (verdict s ≡ 0 → ⊥) → withScratch s scratch x f ≡ f (verdict s)
   on-no-table n = on-bad s _ f n
 
@@ -25,12 +25,12 @@ module _ {X : Type 0} (s scratch : List ℕ) (x : X) (f : ℕ → X) where
   pub on-lent : verdict s ≡ 0 → scratchSize ≤ length scratch → withScratch s scratch x f ≡ x
   on-lent z l = on-good s _ f z ∙ rw (le-ltb _ _ l)
 
-pub data Lent {X : Type 0} (s scratch : List ℕ) (x : X) (f : ℕ → X) : Type 0 where
+pub data Lent {ℓ} {X : Type ℓ} (s scratch : List ℕ) (x : X) (f : ℕ → X) : Type ℓ where
   is-no-table : (verdict s ≡ 0 → ⊥) → withScratch s scratch x f ≡ f (verdict s) → Lent s scratch x f
   is-short : verdict s ≡ 0 → length scratch < scratchSize → withScratch s scratch x f ≡ f 7 → Lent s scratch x f
   is-lent : verdict s ≡ 0 → scratchSize ≤ length scratch → withScratch s scratch x f ≡ x → Lent s scratch x f
 
-pub lent : {X : Type 0} (s scratch : List ℕ) (x : X) (f : ℕ → X) → Lent s scratch x f
+pub lent {ℓ} : {X : Type ℓ} (s scratch : List ℕ) (x : X) (f : ℕ → X) → Lent s scratch x f
 lent s scratch x f = by (ℕ-discrete (verdict s) 0) (decLt (length scratch) scratchSize) where
   by : Dec (verdict s ≡ 0) → Dec (length scratch < scratchSize) → Lent s scratch x f
   by (no n) l = is-no-table n (on-no-table s scratch x f n)

@@ -1,7 +1,7 @@
 -- The loop over the moves of a table that puts those of one kind and mark into a relation.
 use Prim.Native.Nat.{ℕ, zero, suc, _+_, _*_, _/_, _%_, _^_, _<_, _≤_}
 use mathlib.Core.Bool.{Bool, true, false}
-use mathlib.Core.List.{List}
+use mathlib.Core.List.{List, List·Memᴰ}
 use mathlib.Core.Logic.{_↔_, _⊎_, inl, inr, ⊎-elim}
 use mathlib.Core.Option.{Option, some}
 use mathlib.Core.Path.{_≡_, refl, sym, ap, subst, _∙_}
@@ -134,29 +134,44 @@ module _ (s : List ℕ) (good : verdict s ≡ 0) where
         passed true h = refl
         passed false h = absurd h
 
+    -- The same of a test that asks for the kind alone.
+    module _ (k number : ℕ) {b : Bool} (l : k < length u / 4) (d : ofKind? (kindAnswer s (byte u (4 * k + 1))) number ≡ b) where
+      pub of-kind : b ≡ true → kindIn (parse s) (byte u (4 * k + 1)) ≡ kindNumbered number
+      of-kind e = taken k number (byte u (4 * k + 2)) l (mark-same s u (4 * k) number refl d) e .1
+
+      pub other-kind : b ≡ false → kindIn (parse s) (byte u (4 * k + 1)) ≡ kindNumbered number → ⊥
+      other-kind e i = skipped k number (byte u (4 * k + 2)) l (mark-same s u (4 * k) number refl d) e (refl, i)
+
+    -- The moves of the table are those that stand in the bytes.
+    part-count : length u / 4 ≡ movesField s
+    part-count = rw part (omega (arith, good-part-length s good))
+
+    pub move-at : (k : ℕ) → k < length u / 4 → List·Memᴰ (moveIn u (4 * k)) ((parse s) .moves)
+    move-at k l = rw part (move-here s good k (omega (arith, part-count)))
+
+    pub stands-at : {kind : Kind} {γ p q : ℕ} → MoveOf (parse s) kind γ p q → StandsBelow (parse s) kind γ u (length u / 4) p q
+    stands-at {kind} {γ} {p} {q} m =
+        let w = move-place s good (m .stands) in
+        let e = subst (λ u. moveIn u (4 * w .0) ≡ entry p (m .letter) γ q) (sym part) (sym (w .2)) in
+        record {
+          k = w .0;
+          low = omega (arith, w .1, part-count);
+          from = ap (λ x. x .from) e;
+          of = ap (λ x. kindIn (parse s) (x .letter)) e ∙ m .of;
+          mark = ap (λ x. x .mark) e;
+          to = ap (λ x. x .to) e;
+        }
+
     -- The whole loop done.
     pub moves-all : {kind : Kind} {γ n : ℕ} {r : List ℕ} → n ≤ length u / 4 → length u / 4 ≤ n → MovesSoFar (parse s) kind γ u n r
         → HoldsExactly r (MoveOf (parse s) kind γ)
-    moves-all {kind} {γ} {n} {r} l g h = record { at = λ p q. (λ x. forth (h .at p q .0 x), λ m. h .at p q .1 (back m)) } where
-      count : length u / 4 ≡ movesField s
-      count = rw part (omega (arith, good-part-length s good))
+    moves-all {kind} {γ} {n} {r} l g h = record { at = λ p q. (λ x. forth (h .at p q .0 x), λ m. h .at p q .1 (rw (← all) at (stands-at m))) } where
+      all : n ≡ length u / 4
+      all = omega arith
 
       forth : {p q : ℕ} → StandsBelow (parse s) kind γ u n p q → MoveOf (parse s) kind γ p q
       forth w = record {
         letter = byte u (4 * w .k + 1);
-        stands = rw (← w .from, ← w .mark, ← w .to, part) (move-here s good (w .k) (omega (arith, w .low, count)));
+        stands = rw (← w .from, ← w .mark, ← w .to) (move-at (w .k) (omega (arith, w .low)));
         of = w .of;
       }
-
-      back : {p q : ℕ} → MoveOf (parse s) kind γ p q → StandsBelow (parse s) kind γ u n p q
-      back {p} {q} m =
-          let w = move-place s good (m .stands) in
-          let e = subst (λ u. moveIn u (4 * w .0) ≡ entry p (m .letter) γ q) (sym part) (sym (w .2)) in
-          record {
-            k = w .0;
-            low = omega (arith, w .1, count);
-            from = ap (λ x. x .from) e;
-            of = ap (λ x. kindIn (parse s) (x .letter)) e ∙ m .of;
-            mark = ap (λ x. x .mark) e;
-            to = ap (λ x. x .to) e;
-          }

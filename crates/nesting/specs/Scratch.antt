@@ -1,9 +1,10 @@
 -- Document 01, "Refusal numbers", what it says of scratch, with its number 7: 16-bit numbers that some calls are lent for their work.
-use Prim.Native.Nat.{ℕ}
+use Prim.Native.Nat.{ℕ, _≤_}
 use mathlib.Core.Bool.{cond}
 use mathlib.Core.List.{List, _++_}
+use mathlib.Core.Path.{_≡_}
 use lib.Dec.{ltb}
-use lib.ListN.{length, drop, replicate}
+use lib.ListN.{length, getD, drop, replicate}
 use Rattle.table.specs.Calls.{forTable}
 
 -- How many numbers such a call must be lent at least.
@@ -21,3 +22,8 @@ cleared scratch = replicate scratchSize 0 ++ drop scratchSize scratch
 -- Scratch after a call: numbers 1 to 7 leave it as it was, and it was in use for every other answer.
 abbrev pub scratchAfter : List ℕ → List ℕ → List ℕ
 scratchAfter s scratch = withScratch s scratch (cleared scratch) (λ k. scratch)
+
+-- Memory before and after, scratch or an output: as long, and the same from a place on.
+pub record KeptFrom (place : ℕ) (before after : List ℕ) : Type 0 where
+  pub long : length after ≡ length before
+  pub rest : (i : ℕ) → place ≤ i → getD after i 0 ≡ getD before i 0

@@ -1,7 +1,8 @@
 // The balanced pairs and the live levels of a table.
 //
-// `pairs_and_levels` is the call. `balanced_pairs`, `live_levels`, `moves_of` and `clear` serve the crates above. The first three ask for a table that was
-// checked, and for its counts, its pairs or the number of a kind; `clear` asks for enough scratch.
+// `pairs_and_levels` is the call. `balanced_pairs`, `live_levels`, `moves_of`, `is_move_of`, `is_of_kind` and `clear` serve the crates above. The first three
+// ask for a table that was checked, and for its counts, its pairs or the number of a kind; the next two for the number of a kind, `is_move_of` also for a
+// place inside the moves; `clear` asks for enough scratch.
 // In what order the first two search is known to nothing but the functions that they call.
 ghost use Prim.Native.Nat.{ℕ, _+_, _<_, _≤_};
 ghost use lib.Dec.{T};
@@ -28,7 +29,7 @@ use table::refusal;
 pub const SCRATCH: usize = 16384;
 
 // The numbers of kinds.
-const PLAIN: u8 = 0;
+pub const PLAIN: u8 = 0;
 
 pub const OPEN: u8 = 1;
 
@@ -267,7 +268,7 @@ pub fn moves_of(table: &[u8], kind: u8, mark: usize) -> [u64; 64]
 }
 
 // Whether the move at place i of the moves is of this kind and mark. The mark is looked at first, since a kind has to be looked up.
-fn is_move_of(table: &[u8], part: &[u8], i: usize, kind: u8, mark: usize) -> bool
+pub fn is_move_of(table: &[u8], part: &[u8], i: usize, kind: u8, mark: usize) -> bool
     requires { ⌜ (i + 3 < length (now part)) × (kind ≤ 2) ⌝ }
     ensures { λ b. ⌜ moveOf? (now (table .entry)) (now (part .entry)) i kind mark ≡ b ⌝ }
 {
@@ -279,7 +280,8 @@ fn is_move_of(table: &[u8], part: &[u8], i: usize, kind: u8, mark: usize) -> boo
     }
 }
 
-fn is_of_kind(table: &[u8], letter: usize, kind: u8) -> bool
+// Whether a letter is of this kind. One past the table's is of none.
+pub fn is_of_kind(table: &[u8], letter: usize, kind: u8) -> bool
     requires { ⌜ kind ≤ 2 ⌝ }
     ensures { λ b. ⌜ ofKind? (kindAnswer (now (table .entry)) letter) kind ≡ b ⌝ }
 {

@@ -1,4 +1,4 @@
--- Binary digits of numbers: how they are found, how `|`, `&` and `<<` change them, and that they decide the number.
+-- Binary digits of numbers: how they are found, how `|`, `&`, `^` and `<<` change them, and that they decide the number.
 use Prim.Native.Nat.{ℕ, zero, suc, _+_, _-_, _*_, _/_, _%_, _^_, _≤_, _<_, min, max}
 use mathlib.Core.Logic.{_↔_, _⊎_, inl, inr, ⊎-elim}
 use mathlib.Core.Path.{_≡_, refl, sym, ap, _∙_}
@@ -6,7 +6,7 @@ use native.Mathlib.Decide.{ℕ-discrete, decLt}
 use native.Mathlib.Nat.{div-one, one-mul, mod-eq-of-lt, pow-suc, eq-or-lt-of-le, le-of-suc-le-suc}
 use native.Mathlib.Numerals.{one-add, add-one}
 use native.Mathlib.Omega.{arith}
-use lib.Bits.{bitOr, bitAnd, or-step, and-step, or-shr, and-shr, and-self}
+use lib.Bits.{bitOr, bitAnd, bitXor, differ, or-step, and-step, xor-step, or-shr, and-shr, xor-shr, and-self, xor-comm}
 use lib.Count.{ones, ones-step, trailingZeros, under}
 use lib.Pow.{shr-shr, pow-lt}
 use Rattle.relation.specs.Digits.{bit, total}
@@ -22,6 +22,17 @@ bit-or x y k = rw (or-shr x y k, or-step (x / 2 ^ k) (y / 2 ^ k)) (omega arith)
 pub bit-and : (x y k : ℕ) → bit (bitAnd x y) k ≡ min (bit x k) (bit y k)
 unfolding bit
 bit-and x y k = rw (and-shr x y k, and-step (x / 2 ^ k) (y / 2 ^ k)) (omega arith)
+
+differ-low : (h a b : ℕ) → a < 2 → b < 2 → (h * 2 + differ a b) % 2 ≡ differ a b
+differ-low h zero b l m = omega arith
+differ-low h (suc zero) zero l m = omega arith
+differ-low h (suc zero) (suc zero) l m = omega arith
+differ-low h (suc zero) (suc (suc b)) l m = absurd (omega arith)
+differ-low h (suc (suc a)) b l m = absurd (omega arith)
+
+bit-xor : (x y k : ℕ) → bit (bitXor x y) k ≡ differ (bit x k) (bit y k)
+unfolding bit
+bit-xor x y k = rw (xor-shr x y k, xor-step (x / 2 ^ k) (y / 2 ^ k)) (differ-low _ (bit x k) (bit y k) (bit-lt x k) (bit-lt y k))
 
 -- The lowest digit, and the others as digits of the half: the laws that follow go by induction over these.
 pub bit-low : (x : ℕ) → bit x 0 ≡ x % 2
@@ -84,6 +95,18 @@ pub record Drop (n z k y : ℕ) : Type 0 where
   pub set : bit z k ≡ 1
   pub gone : bit y k ≡ 0
   pub kept : (i : ℕ) → (i ≡ k → ⊥) → bit y i ≡ bit z i
+
+-- `z ^ (1 << k)` leaves out digit k, be it the lowest or not.
+pub without : {n z k : ℕ} → k < n → bit z k ≡ 1 → Drop n z k (bitXor z (2 ^ k))
+without {n} {z} {k} l e = record {
+  low = l;
+  set = e;
+  gone = digit k ∙ rw (bit-pow-same k, e) refl;
+  kept = λ i q. digit i ∙ rw (bit-pow-other k i (λ d. q (sym d))) refl;
+}
+  where
+    digit : (i : ℕ) → bit (bitXor z (2 ^ k)) i ≡ differ (bit (2 ^ k) i) (bit z i)
+    digit i = ap (λ (y : ℕ). bit y i) (xor-comm z (2 ^ k)) ∙ bit-xor (2 ^ k) z i
 
 module _ (n z : ℕ) (p : 0 < z) where
   abbrev rest : ℕ
@@ -159,6 +182,9 @@ pub walked-all : {x i : ℕ} → bit x i ≡ 1 → Walked x 0 i
 walked-all {x} {i} e = record { had = e; gone = bit-zero i }
 
 module _ {n x z k y : ℕ} (p : Part x z) (d : Drop n z k y) where
+  pub part-set : bit x k ≡ 1
+  part-set = omega (arith, d .set, p .at k, bit-lt x k)
+
   pub part-less : Part x y
   part-less = record { at = λ i. go i (ℕ-discrete i k) } where
     go : (i : ℕ) → Dec (i ≡ k) → bit y i ≤ bit x i
@@ -168,7 +194,7 @@ module _ {n x z k y : ℕ} (p : Part x z) (d : Drop n z k y) where
   pub walked-more : (i : ℕ) → Walked x y i ↔ (Walked x z i ⊎ (i ≡ k))
   walked-more i = (λ w. forth w (ℕ-discrete i k), ⊎-elim (λ w. back w (ℕ-discrete i k)) (λ e. rw e here)) where
     here : Walked x y k
-    here = record { had = omega (arith, d .set, p .at k, bit-lt x k); gone = d .gone }
+    here = record { had = part-set; gone = d .gone }
 
     forth : Walked x y i → Dec (i ≡ k) → Walked x z i ⊎ (i ≡ k)
     forth w (yes e) = inr e
@@ -202,10 +228,13 @@ total-most (suc n) most f h = omega (arith, h n (omega arith), total-most n most
     mul-suc′ : (a b : ℕ) → a * suc b ≡ a * b + a
     mul-suc′ a b = omega arith
 
-pub total-grows : (n : ℕ) (f g : ℕ → ℕ) → ((k : ℕ) → f k ≤ g k) → total n f ≤ total n g
+pub total-grows-below : (n : ℕ) (f g : ℕ → ℕ) → ((k : ℕ) → k < n → f k ≤ g k) → total n f ≤ total n g
 unfolding total
-total-grows zero f g h = omega arith
-total-grows (suc n) f g h = omega (arith, h n, total-grows n f g h)
+total-grows-below zero f g h = omega arith
+total-grows-below (suc n) f g h = omega (arith, h n (omega arith), total-grows-below n f g (λ k l. h k (omega arith)))
+
+pub total-grows : (n : ℕ) (f g : ℕ → ℕ) → ((k : ℕ) → f k ≤ g k) → total n f ≤ total n g
+total-grows n f g h = total-grows-below n f g (λ k l. h k)
 
 pub total-same : (n : ℕ) (f g : ℕ → ℕ) → ((k : ℕ) → f k ≤ g k) → total n f ≡ total n g → (k : ℕ) → k < n → f k ≡ g k
 unfolding total

@@ -29,7 +29,7 @@ holds-inside {r} is {j} {k} h = (row (decLt j 64), bit-inside 64 (getD r j 0) k 
   row (yes p) = p
   row (no p) = absurd (omega (arith, h .digit, bit-zero k, ap (λ (x : ℕ). bit x k) (List·getD-eq-default r 0 {n = j} (omega (arith, is .rows)))))
 
-digit-of : {r s : List ℕ} {j k : ℕ} → (Holds r j k → Holds s j k) → bit (getD r j 0) k ≤ bit (getD s j 0) k
+pub digit-of : {r s : List ℕ} {j k : ℕ} → (Holds r j k → Holds s j k) → bit (getD r j 0) k ≤ bit (getD s j 0) k
 digit-of {r} {s} {j} {k} f = go (bit (getD r j 0) k) refl where
   go : (b : ℕ) → bit (getD r j 0) k ≡ b → bit (getD r j 0) k ≤ bit (getD s j 0) k
   go zero e = omega arith
@@ -70,7 +70,7 @@ module _ {r s : List ℕ} (sub : (j k : ℕ) → Holds r j k → Holds s j k) wh
       (total-same 64 (λ j. total 64 (bit (getD r j 0))) (λ j. total 64 (bit (getD s j 0))) row-grows e j (omega (arith, a .rows)))))
 
 -- No pair, size 0; one pair more, one more in size.
-digit-none : {r : List ℕ} {j k : ℕ} → (Holds r j k → ⊥) → bit (getD r j 0) k ≡ 0
+pub digit-none : {r : List ℕ} {j k : ℕ} → (Holds r j k → ⊥) → bit (getD r j 0) k ≡ 0
 digit-none {r} {j} {k} h =
     let no-one : bit (getD r j 0) k ≡ 1 → ⊥ = λ e. h (record { digit = e }) in
     omega (arith, bit-lt (getD r j 0) k)

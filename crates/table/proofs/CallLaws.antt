@@ -97,10 +97,10 @@ begins s x f = by (eqb (verdict s) 0) refl where
   by true e = goes-on (eqb-true _ _ e) (rw e)
   by false e = refuses (eqb-false _ _ e) (rw e)
 
-pub on-good : {X : Type 0} (s : List ℕ) (x : X) (f : ℕ → X) → verdict s ≡ 0 → forTable s x f ≡ x
+pub on-good {ℓ} : {X : Type ℓ} (s : List ℕ) (x : X) (f : ℕ → X) → verdict s ≡ 0 → forTable s x f ≡ x
 on-good s x f e = rw (eq-eqb _ _ e)
 
-pub on-bad : {X : Type 0} (s : List ℕ) (x : X) (f : ℕ → X) → (verdict s ≡ 0 → ⊥) → forTable s x f ≡ f (verdict s)
+pub on-bad {ℓ} : {X : Type ℓ} (s : List ℕ) (x : X) (f : ℕ → X) → (verdict s ≡ 0 → ⊥) → forTable s x f ≡ f (verdict s)
 on-bad s x f n = rw (ne-eqb _ _ n)
 
 -- A check: the counts of the table that the bytes mean, or the number.

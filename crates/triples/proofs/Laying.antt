@@ -1,20 +1,21 @@
 -- Laws of what is laid down in memory: numbers one after the other, and rows of four.
 use Prim.Native.Nat.{ℕ, zero, suc, _+_, _*_, _-_, _<_, _≤_, min}
 use mathlib.Core.List.{List, [], _∷_, _++_, map-append}
-use mathlib.Core.Path.{_≡_, refl, sym, ap, subst, _∙_}
+use mathlib.Core.Path.{_≡_, refl, sym, subst, _∙_}
 use native.Mathlib.Decide.{decLt}
 use native.Mathlib.Nat.{zero-add, add-zero, add-assoc}
 use native.Mathlib.Omega.{arith}
 use mir.Syntax.{w64}
 use mir.Val.{Fits}
 use borrow.Author.Tests.{le-leb, lt-leb}
-use lib.ListN.{length, getD, set, drop, replicate, length-append, length-set, length-drop, length-map, List·getD-append}
+use lib.ListN.{length, getD, set, drop, length-append, length-set, length-drop, length-map, List·getD-append}
 use lib.Seq.{getD-append-add, getD-set-same, getD-set-other, getD-drop, ext-getD}
 use Rattle.vpa.specs.TableOnDisk.{Entry, entry}
 use Rattle.table.specs.Layout.{moveBytes}
 use Rattle.table.proofs.Entries.{entries-moves, length-moves, moveIn, entries-get}
-use Rattle.nesting.specs.Scratch.{scratchSize, cleared}
-use Rattle.triples.specs.Listing.{rowsWith, Laid, KeptFrom, capped, Appended}
+use Rattle.nesting.specs.Scratch.{KeptFrom}
+use Rattle.nesting.proofs.Cleared.{kept-none, kept-then}
+use Rattle.triples.specs.Listing.{rowsWith, Laid, capped, Appended}
 
 -- A place in an array of 64 numbers of eight bytes each, counted in bytes.
 pub bytes-fit : {i : ℕ} → i < 64 → Fits w64 (i * 8)
@@ -70,21 +71,6 @@ laid-front {xs} {before} {after} h l =
 -- What is kept from a place on.
 pub laid-kept : {place p : ℕ} {xs a b : List ℕ} → Laid place xs a b → place + length xs ≤ p → KeptFrom p a b
 laid-kept h l = record { long = h .long; rest = λ i m. h .rest i (omega arith) }
-
-pub kept-none : (place : ℕ) (s : List ℕ) → KeptFrom place s s
-kept-none place s = record { long = refl; rest = λ i l. refl }
-
-pub kept-then : {p : ℕ} {a b c : List ℕ} → KeptFrom p a b → KeptFrom p b c → KeptFrom p a c
-kept-then f g = record { long = g .long ∙ f .long; rest = λ i l. g .rest i l ∙ f .rest i l }
-
-pub kept-more : {p q : ℕ} {a b : List ℕ} → p ≤ q → KeptFrom p a b → KeptFrom q a b
-kept-more l h = record { long = h .long; rest = λ i m. h .rest i (omega arith) }
-
-pub kept-cleared : {p : ℕ} {a b : List ℕ} → KeptFrom p a b → p ≤ scratchSize → cleared b ≡ cleared a
-unfolding cleared
-kept-cleared {a = a} {b} h l =
-    ap (λ (x : List ℕ). replicate scratchSize 0 ++ x) (ext-getD 0 (drop scratchSize b) (drop scratchSize a) (simp length-drop (omega arith))
-    (λ i m. simp getD-drop (h .rest (scratchSize + i) (omega arith))))
 
 -- A capped count is the lesser of the count and one more than the most, and the other laws of it are arithmetic.
 capped-min : (most x : ℕ) → capped most x ≡ min x (most + 1)

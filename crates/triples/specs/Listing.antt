@@ -10,6 +10,7 @@ use Rattle.vpa.specs.Lists.{Trio, sift, below}
 use Rattle.vpa.specs.TableOnDisk.{Entry, entry}
 use Rattle.table.specs.Layout.{moveBytes}
 use Rattle.relation.specs.Digits.{bit}
+use Rattle.nesting.specs.Scratch.{KeptFrom}
 
 -- The digits of x below 64 that are 1, from the lowest on.
 unfoldable pub digitsOf : ℕ → List ℕ
@@ -29,11 +30,6 @@ pub record Laid (place : ℕ) (numbers before after : List ℕ) : Type 0 where
   pub at : (i : ℕ) → i < length numbers → getD after (place + i) 0 ≡ getD numbers i 0
   pub front : (i : ℕ) → i < place → getD after i 0 ≡ getD before i 0
   pub rest : (i : ℕ) → place + length numbers ≤ i → getD after i 0 ≡ getD before i 0
-
--- As long as before, and the same from a place on.
-pub record KeptFrom (place : ℕ) (before after : List ℕ) : Type 0 where
-  pub long : length after ≡ length before
-  pub rest : (i : ℕ) → place ≤ i → getD after i 0 ≡ getD before i 0
 
 -- A count that stops one past the most.
 unfoldable pub capped : ℕ → ℕ → ℕ

@@ -14,3 +14,4 @@ pub mod TrimmedTable
 pub mod TableReader
 pub mod Lengths
 pub mod Each
+pub mod ShortestLogs

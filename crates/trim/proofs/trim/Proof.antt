@@ -4,9 +4,8 @@ use borrow.Author.Needs.{needs}
 use mathlib.Core.Path.{sym, ap, _∙_}
 use Rattle.table.specs.Answers.{checkedAs}
 use Rattle.table.proofs.CallLaws.{Counted, when-good, when-refused}
-use Rattle.nesting.proofs.Cleared.{scratch-size}
+use Rattle.nesting.proofs.Cleared.{scratch-size, kept-cleared}
 use Rattle.trim.proofs.CallLaws.{meets-no-table, meets-short, meets-written}
-use Rattle.triples.proofs.Laying.{kept-cleared}
 use Rattle.trim.proofs.trim.Statement.{statement}
 use Rattle.trim.proofs.trim.Tie as tie
 

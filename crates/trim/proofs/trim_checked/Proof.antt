@@ -3,7 +3,8 @@ use denote.Ref.{now}
 use Rattle.vpa.specs.TrimComputed.{trimStates}
 use Rattle.table.specs.Layout.{parse}
 use Rattle.triples.specs.Listing.{trioRows, Appended}
-use Rattle.triples.proofs.Laying.{appended-long, kept-more, kept-then}
+use Rattle.nesting.proofs.Cleared.{kept-more, kept-then}
+use Rattle.triples.proofs.Laying.{appended-long}
 use Rattle.triples.proofs.Rows.{column-trios}
 use Rattle.trim.proofs.Stages.{states-listed, many-states}
 use Rattle.trim.proofs.trim_checked.Statement.{statement}

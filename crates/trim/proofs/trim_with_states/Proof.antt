@@ -1,5 +1,6 @@
 use native.Mathlib.Omega.{arith}
-use Rattle.triples.proofs.Laying.{appended-long, kept-more, kept-then}
+use Rattle.nesting.proofs.Cleared.{kept-more, kept-then}
+use Rattle.triples.proofs.Laying.{appended-long}
 use Rattle.triples.proofs.Rows.{column-trios}
 use Rattle.trim.proofs.Stages.{many-marks}
 use Rattle.trim.proofs.trim_with_states.Statement.{statement}
