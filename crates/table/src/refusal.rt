@@ -26,3 +26,6 @@ pub const LARGE: u8 = 8;
 
 // The output has too little room for what is to be written.
 pub const ROOM: u8 = 9;
+
+// More letters than a log that is shown may have, in each log that is accepted.
+pub const LONG: u8 = 10;

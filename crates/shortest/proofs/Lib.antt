@@ -1,0 +1,4 @@
+pub mod CallLaws
+pub mod Finding
+pub mod Tops
+pub mod Walks
