@@ -15,6 +15,17 @@ pub fn next_number(n: usize) {
     number(n);
 }
 
+// A number after a space for each byte.
+pub fn next_numbers(bytes: &[u8]) {
+    for i in 0..bytes.len() {
+        next_byte(bytes[i]);
+    }
+}
+
+fn next_byte(byte: u8) {
+    next_number(byte as usize);
+}
+
 // Two hexadecimal digits for each byte.
 pub fn hex(bytes: &[u8]) {
     for i in 0..bytes.len() {

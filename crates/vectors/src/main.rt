@@ -1,6 +1,9 @@
 // Cases of what each library must answer, one line for each. The file `stdout` has the lines that must come.
+mod lent;
 mod lines;
 mod nesting_cases;
+mod replay;
+mod shortest_cases;
 mod table_cases;
 mod tables;
 mod trim_cases;
@@ -9,4 +12,5 @@ fn main() {
     table_cases::run();
     nesting_cases::run();
     trim_cases::run();
+    shortest_cases::run();
 }

@@ -1,4 +1,7 @@
 // What the call of `nesting` answers: the sizes or the refusal, then the pairs, the levels, and for some what became of the scratch.
+use crate::lent;
+use crate::lent::CLEARED;
+use crate::lent::UNTOUCHED;
 use crate::lines;
 use crate::tables;
 use crate::tables::CHAIN_BYTES;
@@ -9,12 +12,6 @@ use crate::tables::VERSION_PLACE;
 use crate::tables::WORKED;
 use nesting::Found;
 use nesting::Nesting;
-
-// What scratch holds before it is lent.
-pub const UNTOUCHED: u16 = 7;
-
-// How many numbers of scratch document 01 has cleared.
-pub const CLEARED: usize = 16384;
 
 // Every digit is 1.
 const FULL_ROW: u64 = 18446744073709551615;
@@ -100,7 +97,7 @@ fn show_lent(label: &[u8], table: &[u8], scratch: &mut [u16]) {
     let answer = nesting::pairs_and_levels(table, scratch);
     show_answer(answer);
     let found = answer.found;
-    show_scratch(cleared(found), scratch);
+    lent::show_scratch(cleared(found), scratch);
 }
 
 fn show_answer(answer: Nesting) {
@@ -163,24 +160,4 @@ fn cleared(found: Found) -> usize {
         Found::Refused(_) => 0,
         Found::Sizes(_) => CLEARED,
     }
-}
-
-pub fn show_scratch(zeros: usize, scratch: &[u16]) {
-    if !holds(scratch, zeros) {
-        lines::answer(b", other scratch");
-    } else if zeros == 0 {
-        lines::answer(b", scratch as it was");
-    } else {
-        lines::answer(b", 16384 numbers cleared");
-    }
-}
-
-// Whether so many numbers are cleared and all after them are as they were.
-fn holds(scratch: &[u16], zeros: usize) -> bool {
-    let mut ok = zeros <= scratch.len();
-    for i in 0..scratch.len() {
-        let expected = if i < zeros { 0 } else { UNTOUCHED };
-        ok = ok & (scratch[i] == expected);
-    }
-    ok
 }

@@ -1,4 +1,6 @@
 // What the calls of `table` answer.
+use crate::lent;
+use crate::lent::UNWRITTEN;
 use crate::lines;
 use crate::tables;
 use crate::tables::FROM;
@@ -18,9 +20,6 @@ use table::Got;
 use table::KindAt;
 use table::Table;
 use table::Written;
-
-// What an output holds before a table is written to it.
-pub const UNTOUCHED: u8 = 0xAA;
 
 pub fn run() {
     fronts();
@@ -59,14 +58,14 @@ fn whole_tables() {
 }
 
 fn lengths() {
-    show(b"the last byte missing", front(&WORKED, 35));
+    show(b"the last byte missing", lent::front(&WORKED, 35));
     show(b"one byte more", &tables::longer_worked(0x22));
     show(b"L one less", &tables::worked_with(1, 0x21));
     show(b"L one more", &tables::worked_with(1, 0x23));
     show(b"L and the slice one longer", &tables::longer_worked(0x23));
     show(
         b"L and the slice one shorter",
-        front(&tables::worked_with(1, 0x21), 35),
+        lent::front(&tables::worked_with(1, 0x21), 35),
     );
 }
 
@@ -78,14 +77,17 @@ fn long_slices() {
     show(b"65544 bytes and L = 6", &table);
     table[0] = 255;
     table[1] = 255;
-    show(b"65537 bytes and L = 65535", front(&table, 65537));
+    show(b"65537 bytes and L = 65535", lent::front(&table, 65537));
 }
 
 fn versions() {
     show(b"version 0", &tables::worked_with(VERSION_PLACE, 0));
     let mut second = tables::worked_with(VERSION_PLACE, 2);
     show(b"version 2", &second);
-    show(b"version 2 and the last byte missing", front(&second, 35));
+    show(
+        b"version 2 and the last byte missing",
+        lent::front(&second, 35),
+    );
     second[STATES_PLACE] = 65;
     show(b"version 2 and 65 states", &second);
 }
@@ -119,7 +121,10 @@ fn limits_of_moves() {
     lines::label(b"the largest table");
     show_size(Table::BYTES);
     let mut table = tables::of_counts(64, 32, 64, 1024);
-    show(b"every count at its limit", front(&table, Table::BYTES));
+    show(
+        b"every count at its limit",
+        lent::front(&table, Table::BYTES),
+    );
     table[1] = 0x67;
     show(b"one byte more and L = 4199", &table);
 }
@@ -175,7 +180,7 @@ fn none_of_a_kind() {
     show_made(b"plain moves and no mark", 2, 1, 0, 2);
     let mut opening = tables::of_counts(2, 1, 0, 1);
     opening[KINDS_PLACE] = 1;
-    show(b"an open move and no mark", front(&opening, 15));
+    show(b"an open move and no mark", lent::front(&opening, 15));
 }
 
 fn sizes_of_moves() {
@@ -184,7 +189,7 @@ fn sizes_of_moves() {
     lines::label(b"the moves of a refused table");
     show_size(table::moves(&tables::changed(4, FROM, 4)).len());
     lines::label(b"the moves of the empty slice");
-    show_size(table::moves(front(&WORKED, 0)).len());
+    show_size(table::moves(lent::front(&WORKED, 0)).len());
 }
 
 // Four times 2^62 is 0 in 64 bits.
@@ -203,7 +208,7 @@ fn moves() {
 
 fn moves_of_seven_bytes() {
     let worked = WORKED;
-    let part = front(table::moves(&worked), 7);
+    let part = lent::front(table::moves(&worked), 7);
     lines::text(b"in seven bytes, ");
     show_move(part, 0);
     lines::text(b"in seven bytes, ");
@@ -236,26 +241,26 @@ fn writes() {
     show_write(
         b"the worked table into 36 bytes",
         &WORKED,
-        &mut [UNTOUCHED; 36],
+        &mut [UNWRITTEN; 36],
     );
     show_write(
         b"the worked table into 40 bytes",
         &WORKED,
-        &mut [UNTOUCHED; 40],
+        &mut [UNWRITTEN; 40],
     );
     show_write(
         b"the worked table into 35 bytes",
         &WORKED,
-        &mut [UNTOUCHED; 35],
+        &mut [UNWRITTEN; 35],
     );
     show_write(
         b"the worked table into 0 bytes",
         &WORKED,
-        &mut [UNTOUCHED; 0],
+        &mut [UNWRITTEN; 0],
     );
     let second = tables::worked_with(VERSION_PLACE, 2);
-    show_write(b"version 2 into 40 bytes", &second, &mut [UNTOUCHED; 40]);
-    show_write(b"version 2 into 0 bytes", &second, &mut [UNTOUCHED; 0]);
+    show_write(b"version 2 into 40 bytes", &second, &mut [UNWRITTEN; 40]);
+    show_write(b"version 2 into 0 bytes", &second, &mut [UNWRITTEN; 0]);
 }
 
 fn show(label: &[u8], table: &[u8]) {
@@ -267,7 +272,7 @@ fn show_front(size: usize) {
     lines::text(b"the worked table cut to size");
     lines::next_number(size);
     lines::text(b": ");
-    show_answer(front(&WORKED, size));
+    show_answer(lent::front(&WORKED, size));
 }
 
 fn show_answer(table: &[u8]) {
@@ -293,7 +298,7 @@ fn show_counts(counts: Table) {
 fn show_made(label: &[u8], states: u8, letters: u8, marks: u8, moves: u16) {
     let table = tables::of_counts(states, letters, marks, moves);
     let size = tables::length(states, letters, moves) + 2;
-    show(label, front(&table, size));
+    show(label, lent::front(&table, size));
 }
 
 fn show_changed(label: &[u8], k: u8, field: u8, byte: u8) {
@@ -361,12 +366,12 @@ fn show_written(answer: Written, table: &[u8], out: &[u8]) {
     match answer {
         Written::Refused(number) => {
             lines::refused(number);
-            show_output(holds(out, b""), b", as it was");
+            show_output(lent::holds(out, b""), b", as it was");
         }
         Written::Bytes(bytes) => {
             lines::text(b"wrote");
             lines::next_number(bytes);
-            show_output(holds(out, table), b", the table, then as it was");
+            show_output(lent::holds(out, table), b", the table, then as it was");
         }
     }
 }
@@ -376,27 +381,5 @@ fn show_output(is_so: bool, words: &[u8]) {
         lines::answer(words);
     } else {
         lines::answer(b", other");
-    }
-}
-
-// Whether all of out is the table and then bytes as they were.
-pub fn holds(out: &[u8], table: &[u8]) -> bool {
-    let mut ok = table.len() <= out.len();
-    for i in 0..out.len() {
-        ok = ok & (out[i] == expected(table, i));
-    }
-    ok
-}
-
-fn expected(table: &[u8], i: usize) -> u8 {
-    if i < table.len() { table[i] } else { UNTOUCHED }
-}
-
-// The first bytes of a slice, or all of a shorter one.
-pub fn front(bytes: &[u8], size: usize) -> &[u8] {
-    if size < bytes.len() {
-        &bytes[0..size]
-    } else {
-        bytes
     }
 }

@@ -1,10 +1,12 @@
 // What the call of `trim` answers: the trimmed table or the refusal, then what the rest of the output and the scratch hold.
+use crate::lent;
+use crate::lent::CLEARED;
+use crate::lent::UNTOUCHED;
+use crate::lent::UNWRITTEN;
 use crate::lines;
-use crate::nesting_cases;
-use crate::nesting_cases::CLEARED;
-use crate::nesting_cases::UNTOUCHED;
 use crate::table_cases;
 use crate::tables;
+use crate::tables::FINAL_PLACE;
 use crate::tables::LAST_BYTES;
 use crate::tables::NESTED_TWICE;
 use crate::tables::TO;
@@ -15,14 +17,8 @@ use crate::tables::VERSION_PLACE;
 use crate::tables::WORKED;
 use trim::Trimmed;
 
-// What an output holds before it is lent.
-const UNWRITTEN: u8 = table_cases::UNTOUCHED;
-
 // A table with more bytes is not written out.
 const SHORT: usize = 80;
-
-// The first refusal that leaves zeros in scratch.
-const USED: u8 = 8;
 
 pub fn run() {
     sizes_of_output();
@@ -89,7 +85,10 @@ fn last_of_each() {
 
 fn nothing_accepted() {
     show(b"trim of no states", &[0, 6, 1, 0, 0, 0, 0, 0]);
-    show(b"trim of no final state", &tables::worked_with(14, 0));
+    show(
+        b"trim of no final state",
+        &tables::worked_with(FINAL_PLACE, 0),
+    );
 }
 
 // Each state is initial and final and has a move to each: n states make n^3 trimmed states, and a move n^2 trimmed moves.
@@ -107,7 +106,7 @@ fn one_state_more() {
     table[13] = 3;
     show_lent(
         b"trim to 65 states into 0 bytes",
-        table_cases::front(&table, 78),
+        lent::front(&table, 78),
         &mut [UNTOUCHED; 16385],
         &mut [UNWRITTEN; 0],
     );
@@ -122,7 +121,7 @@ fn marks() {
 fn show_plain(label: &[u8], states: u8, letters: u8, moves: u16, others: u8) {
     let table = tables::of_all_moves(states, letters, 1, states, moves, others);
     let size = tables::length(states, letters, moves) + 2;
-    show(label, table_cases::front(&table, size));
+    show(label, lent::front(&table, size));
 }
 
 fn show_marks(label: &[u8], states: u8, marks: u8, moves: u16) {
@@ -130,7 +129,7 @@ fn show_marks(label: &[u8], states: u8, marks: u8, moves: u16) {
     table[8] = 1;
     table[9] = 2;
     let size = tables::length(states, 2, moves) + 2;
-    show(label, table_cases::front(&table, size));
+    show(label, lent::front(&table, size));
 }
 
 fn show(label: &[u8], table: &[u8]) {
@@ -146,18 +145,18 @@ fn show_lent(label: &[u8], table: &[u8], scratch: &mut [u16], out: &mut [u8]) {
     lines::label(label);
     let answer = trim::trim(table, scratch, out);
     show_answer(answer, out);
-    nesting_cases::show_scratch(cleared(answer), scratch);
+    lent::show_scratch(cleared(answer), scratch);
 }
 
 fn show_answer(answer: Trimmed, out: &[u8]) {
     match answer {
         Trimmed::Refused(number) => {
             lines::refused(number);
-            show_rest(out, 0);
+            lent::show_rest(out, 0);
         }
         Trimmed::Bytes(bytes) => {
-            show_trimmed(table_cases::front(out, bytes));
-            show_rest(out, bytes);
+            show_trimmed(lent::front(out, bytes));
+            lent::show_rest(out, bytes);
         }
     }
 }
@@ -188,17 +187,9 @@ fn with_byte(total: usize, byte: u8) -> usize {
     total % 65521 * 256 + byte as usize
 }
 
-fn show_rest(out: &[u8], bytes: usize) {
-    if table_cases::holds(out, table_cases::front(out, bytes)) {
-        lines::text(b", then as it was");
-    } else {
-        lines::text(b", then other");
-    }
-}
-
 fn cleared(answer: Trimmed) -> usize {
     match answer {
-        Trimmed::Refused(number) => { if number < USED { 0 } else { CLEARED } }
+        Trimmed::Refused(number) => lent::cleared_at(number),
         Trimmed::Bytes(_) => CLEARED,
     }
 }

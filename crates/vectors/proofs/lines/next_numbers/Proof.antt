@@ -1,17 +1,17 @@
 use native.Mathlib.Omega.{arith}
 use Prim.Native.Nat.{_≤_, _-_}
 use lib.ListN.{length}
-use Rattle.vectors.proofs.table_cases.holds.Statement.{statement}
-use Rattle.vectors.proofs.table_cases.holds.Tie as tie
+use Rattle.vectors.proofs.lines.next_numbers.Statement.{statement}
+use Rattle.vectors.proofs.lines.next_numbers.Tie as tie
 
 abbrev Inv-loop : tie.InvT-loop
-Inv-loop out table ok₀ i₀ i-end ok i = i ≤ length out
+Inv-loop bytes i₀ i-end i = i ≤ length bytes
 
 abbrev μ-loop : tie.MeasureT-loop
-μ-loop out table ok₀ i₀ i-end ok i = length out - i
+μ-loop bytes i₀ i-end i = length bytes - i
 
-pub holds-spec : {M : Type 1} → statement M
-holds-spec =
+pub next-numbers-spec : {M : Type 1} → statement M
+next-numbers-spec =
     tie.close
     (tie.spec
     Inv-loop

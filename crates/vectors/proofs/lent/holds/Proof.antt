@@ -1,14 +1,14 @@
 use native.Mathlib.Omega.{arith}
 use Prim.Native.Nat.{_≤_, _-_}
 use lib.ListN.{length}
-use Rattle.vectors.proofs.nesting_cases.holds.Statement.{statement}
-use Rattle.vectors.proofs.nesting_cases.holds.Tie as tie
+use Rattle.vectors.proofs.lent.holds.Statement.{statement}
+use Rattle.vectors.proofs.lent.holds.Tie as tie
 
 abbrev Inv-loop : tie.InvT-loop
-Inv-loop scratch zeros ok₀ i₀ i-end ok i = i ≤ length scratch
+Inv-loop out bytes ok₀ i₀ i-end ok i = i ≤ length out
 
 abbrev μ-loop : tie.MeasureT-loop
-μ-loop scratch zeros ok₀ i₀ i-end ok i = length scratch - i
+μ-loop out bytes ok₀ i₀ i-end ok i = length out - i
 
 pub holds-spec : {M : Type 1} → statement M
 holds-spec =
@@ -18,7 +18,7 @@ holds-spec =
     μ-loop
     (λ c. omega arith)
     (λ c. omega arith)
-    (λ c. omega arith)
+    (λ c κs. tt)
     (λ c. omega arith)
     (λ c. omega arith)
     (λ c. omega arith)
