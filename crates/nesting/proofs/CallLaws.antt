@@ -18,6 +18,7 @@ use Rattle.table.specs.Layout.{parse}
 use Rattle.table.specs.Refusals.{verdict}
 use Rattle.table.proofs.CallLaws.{once}
 use Rattle.table.proofs.Tables.{good-storable, good-table}
+use Rattle.table.proofs.Lent.{Lent, is-no-table, is-short, is-lent, lent, on-no-table, on-short, on-lent, RefusedFor, lent-refused-iff}
 use Rattle.relation.specs.Relations.{Holds, HoldsExactly, sizeOf}
 use Rattle.relation.proofs.Relations.{size-most}
 use Rattle.nesting.specs.declared.Found.{Found}
@@ -26,7 +27,6 @@ use Rattle.nesting.specs.declared.Nesting.{Nesting}
 use Rattle.nesting.specs.Answers.{Sizes, foundAs}
 use Rattle.nesting.specs.Calls.{rows, sizesAnswer, nestingAnswer, nestingPairs, nestingLevels}
 use Rattle.nesting.specs.Scratch.{scratchSize, withScratch, cleared, scratchAfter}
-use Rattle.nesting.proofs.Lent.{Lent, is-no-table, is-short, is-lent, lent, on-no-table, on-short, on-lent, RefusedFor, lent-refused-iff}
 use Rattle.nesting.proofs.ListedRows.{Listed, Inside, rows-listed, rows-size}
 
 -- The rows of a list hold a pair exactly where P, if P is what it means for the pair to stand in the list.
@@ -91,30 +91,30 @@ pub data Nests (s scratch : List ℕ) : Type 0 where
       → nestingLevels s scratch ≡ rows (levels (parse s)) → scratchAfter s scratch ≡ cleared scratch → Nests s scratch
 
 pub nesting-does : (s scratch : List ℕ) → Nests s scratch
-nesting-does s scratch = by (lent s scratch (sizesAnswer (parse s)) refused) where
-  by : Lent s scratch (sizesAnswer (parse s)) refused → Nests s scratch
-  by (is-no-table n e) = no-table n e (untouched s scratch (λ x y. on-no-table s scratch x (λ k. y) n))
-  by (is-short z l e) = no-scratch z l e (untouched s scratch (λ x y. on-short s scratch x (λ k. y) z l))
+nesting-does s scratch = by (lent scratchSize s scratch (sizesAnswer (parse s)) refused) where
+  by : Lent scratchSize s scratch (sizesAnswer (parse s)) refused → Nests s scratch
+  by (is-no-table n e) = no-table n e (untouched s scratch (λ x y. on-no-table scratchSize s scratch x (λ k. y) n))
+  by (is-short z l e) = no-scratch z l e (untouched s scratch (λ x y. on-short scratchSize s scratch x (λ k. y) z l))
   by (is-lent z l e) =
-      let good : (x y : List ℕ) → withScratch s scratch x (λ k. y) ≡ x = λ x y. on-lent s scratch x (λ k. y) z l in
+      let good : (x y : List ℕ) → withScratch s scratch x (λ k. y) ≡ x = λ x y. on-lent scratchSize s scratch x (λ k. y) z l in
       nests z l e (good (rows (pairs (parse s))) (replicate 64 0)) (good (rows (levels (parse s))) (replicate 64 0)) (good (cleared scratch) scratch)
 
 -- So the rows that the call answers hold the balanced pairs of states, and the live levels. (Every number is balanced with itself, so of pairs the first
 -- half is asked to be a state; the second then is one.)
 module _ (s scratch : List ℕ) (good : verdict s ≡ 0) (long : scratchSize ≤ length scratch) where
   pub nesting-pairs-iff : (j k : ℕ) → Holds (nestingPairs s scratch) j k ↔ ((j < stateCount (parse s)) × Balanced (automaton (parse s)) j k)
-  nesting-pairs-iff j k = rw (on-lent s scratch (rows (pairs (parse s))) (λ k. replicate 64 0) good long) (pair-rows-iff s good j k)
+  nesting-pairs-iff j k = rw (on-lent scratchSize s scratch (rows (pairs (parse s))) (λ k. replicate 64 0) good long) (pair-rows-iff s good j k)
 
   pub nesting-levels-iff : (o q : ℕ) → Holds (nestingLevels s scratch) o q ↔ Live (automaton (parse s)) o q
-  nesting-levels-iff o q = rw (on-lent s scratch (rows (levels (parse s))) (λ k. replicate 64 0) good long) (level-rows-iff s good o q)
+  nesting-levels-iff o q = rw (on-lent scratchSize s scratch (rows (levels (parse s))) (λ k. replicate 64 0) good long) (level-rows-iff s good o q)
 
 no-refusal : (t : Table) {k : ℕ} → sizesAnswer t ≡ refused k → ⊥
 no-refusal t e = let o : _≡_ {A = ℕ} 0 1 = cc in omega arith
 
 -- The numbers that refuse: those for the bytes and the scratch, and no other.
-pub nesting-refused-iff : (s scratch : List ℕ) → AreBytes s → (k : ℕ) → (nestingAnswer s scratch ≡ refused k) ↔ RefusedFor s scratch k
+pub nesting-refused-iff : (s scratch : List ℕ) → AreBytes s → (k : ℕ) → (nestingAnswer s scratch ≡ refused k) ↔ RefusedFor scratchSize s scratch k
 nesting-refused-iff s scratch bytes k =
-    let reasons = lent-refused-iff s scratch (sizesAnswer (parse s)) bytes k in
+    let reasons = lent-refused-iff scratchSize s scratch (sizesAnswer (parse s)) bytes k in
     (λ e. ⊎-elim (λ r. r) (λ w. absurd (no-refusal (parse s) (w .2))) (reasons .0 e), λ r. reasons .1 (inl r))
 
 pub nesting-refused : (s scratch : List ℕ) (k : ℕ) → nestingAnswer s scratch ≡ refused k → Untouched s scratch
@@ -136,12 +136,12 @@ meets-refused s scratch {k} refusal e f g = let u = nesting-refused s scratch k 
 pub meets-found : (s scratch : List ℕ) {answer : Answer Sizes} {p l after : List ℕ} → verdict s ≡ 0 → scratchSize ≤ length scratch
     → answer ≡ sizesAnswer (parse s) → p ≡ rows (pairs (parse s)) → l ≡ rows (levels (parse s)) → after ≡ cleared scratch → Meets s scratch answer p l after
 meets-found s scratch good long e f g h = (
-  e ∙ sym (on-lent s scratch (sizesAnswer (parse s)) refused good long),
+  e ∙ sym (on-lent scratchSize s scratch (sizesAnswer (parse s)) refused good long),
   (
-    f ∙ sym (on-lent s scratch (rows (pairs (parse s))) (λ k. replicate 64 0) good long),
+    f ∙ sym (on-lent scratchSize s scratch (rows (pairs (parse s))) (λ k. replicate 64 0) good long),
     (
-      g ∙ sym (on-lent s scratch (rows (levels (parse s))) (λ k. replicate 64 0) good long),
-      h ∙ sym (on-lent s scratch (cleared scratch) (λ k. scratch) good long),
+      g ∙ sym (on-lent scratchSize s scratch (rows (levels (parse s))) (λ k. replicate 64 0) good long),
+      h ∙ sym (on-lent scratchSize s scratch (cleared scratch) (λ k. scratch) good long),
     ),
   ),
 )

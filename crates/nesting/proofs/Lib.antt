@@ -1,7 +1,6 @@
 pub mod CallLaws
 pub mod Cleared
 pub mod Computed
-pub mod Lent
 pub mod LevelSearch
 pub mod ListedRows
 pub mod MovesFound

@@ -1,19 +1,17 @@
 -- Document 01, "Refusal numbers", what it says of scratch, with its number 7: 16-bit numbers that some calls are lent for their work.
 use Prim.Native.Nat.{ℕ, _≤_}
-use mathlib.Core.Bool.{cond}
 use mathlib.Core.List.{List, _++_}
 use mathlib.Core.Path.{_≡_}
-use lib.Dec.{ltb}
 use lib.ListN.{length, getD, drop, replicate}
-use Rattle.table.specs.Calls.{forTable}
+use Rattle.table.specs.Calls.{withLent}
 
 -- How many numbers such a call must be lent at least.
 unfoldable pub scratchSize : ℕ
 scratchSize = 16384
 
--- One thing for bytes that are a table, with enough scratch. Else what is made of the number that refuses: that of the bytes comes first, then 7.
+-- One thing for bytes that are a table, with enough scratch. Else what is made of the number that refuses.
 abbrev pub withScratch {ℓ} : {X : Type ℓ} → List ℕ → List ℕ → X → (ℕ → X) → X
-withScratch s scratch good refusal = forTable s (cond (ltb (length scratch) scratchSize) (refusal 7) good) refusal
+withScratch = withLent scratchSize
 
 -- Scratch that was in use: zeros in front, whatever was there, and what lies past them as it was.
 unfoldable pub cleared : List ℕ → List ℕ

@@ -1,8 +1,8 @@
 // The balanced pairs and the live levels of a table.
 //
-// `pairs_and_levels` is the call. `balanced_pairs`, `live_levels`, `moves_of`, `is_move_of`, `is_of_kind` and `clear` serve the crates above. The first three
-// ask for a table that was checked, and for its counts, its pairs or the number of a kind; the next two for the number of a kind, `is_move_of` also for a
-// place inside the moves; `clear` asks for enough scratch.
+// `pairs_and_levels` is the call. `balanced_pairs`, `live_levels`, `moves_of`, `is_move_of`, `is_of_kind`, `initial_digit` and `clear` serve the crates above.
+// The first three ask for a table that was checked, and for its counts, its pairs or the number of a kind; the next two for the number of a kind,
+// `is_move_of` also for a place inside the moves; `initial_digit` for a state below 64; `clear` for enough scratch.
 // In what order the first two search is known to nothing but the functions that they call.
 ghost use Prim.Native.Nat.{ℕ, _+_, _<_, _≤_};
 ghost use lib.Dec.{T};
@@ -190,7 +190,8 @@ fn initial_states(table: &[u8]) -> u64
     x
 }
 
-fn initial_digit(table: &[u8], o: usize) -> u64
+// A digit for the state o if it is initial, else none.
+pub fn initial_digit(table: &[u8], o: usize) -> u64
     requires { ⌜ o < 64 ⌝ }
     ensures { λ y. ⌜ ((k : ℕ) → (bit y k ≡ 1) ↔ ((k ≡ o) × T (initial? (parse (now (table .entry))) k))) ⌝ }
 {

@@ -11,7 +11,7 @@ use lib.ListN.{getD, set, replicate, length-set, List·getD-eq-default}
 use lib.Pow.{pow-lt}
 use lib.Seq.{ext-getD, getD-set-same, getD-set-other}
 use Rattle.relation.specs.Digits.{bit, total}
-use Rattle.relation.specs.Relations.{Holds, holds?, HoldsExactly, IsRelation, NoPair, Identity, With, Either, Both, sizeOf}
+use Rattle.relation.specs.Relations.{Holds, holds?, HoldsExactly, IsRelation, RowsBelow, NoPair, Identity, Diagonal, With, Either, Both, sizeOf}
 use Rattle.relation.proofs.Digits.{bit-lt, bit-or, bit-and, bit-zero, bit-pow-same, bit-pow-other, one-shifted, bit-inside, bit-ext, total-most, total-grows, total-same, total-equal, total-one-more}
 
 pub held-iff-test : (r : List ℕ) (j k : ℕ) → T (holds? r j k) ↔ Holds r j k
@@ -110,6 +110,17 @@ zero-row (suc n) (suc j) = zero-row n j
 pub no-digit : {x : ℕ} (k : ℕ) → x ≡ 0 → bit x k ≡ 1 → ⊥
 no-digit {x} k z e = omega (arith, ap (λ (y : ℕ). bit y k) z, bit-zero k)
 
+-- Of all rows there is none past the last.
+pub all-rows : {r : List ℕ} → IsRelation r → RowsBelow 64 r
+all-rows {r} is = record { rows = is .rows; past = λ j l. List·getD-eq-default r 0 (omega (arith, is .rows)) }
+
+-- A pair that is held begins below where the rows end.
+pub row-low : {n : ℕ} {r : List ℕ} → RowsBelow n r → {j k : ℕ} → Holds r j k → j < n
+row-low {n} {r} below {j} {k} h = by (decLt j n) where
+  by : Dec (j < n) → j < n
+  by (yes l) = l
+  by (no g) = absurd (no-digit k (below .past j (omega arith)) (h .digit))
+
 pub zeros-relation : IsRelation (replicate 64 0)
 zeros-relation = record { rows = refl; fits = λ j. rw (zero-row 64 j) (omega arith) }
 
@@ -165,6 +176,12 @@ both-fits {r} s a j = omega (arith, a .fits j, and-le-l (getD r j 0) (getD s j 0
 pub identity-row : {n j : ℕ} → j < 64 → j < n → (k : ℕ) → (bit (1 * 2 ^ j % 2 ^ 64) k ≡ 1) ↔ Identity n j k
 identity-row l m k = (λ e. record { same = sym (one-digit l k .0 e); low = m }, λ e. one-digit l k .1 (sym (e .same)))
 
+pub diagonal-row : {j : ℕ} (x : ℕ) → j < 64 → (k : ℕ) → (bit (bitAnd x (1 * 2 ^ j % 2 ^ 64)) k ≡ 1) ↔ Diagonal x j k
+diagonal-row {j} x l k = (
+  λ e. let w = and-digit x (1 * 2 ^ j % 2 ^ 64) k .0 e in let same = one-digit l k .0 (w .1) in record { same = sym same; digit = rw (← same) (w .0) },
+  λ w. and-digit x (1 * 2 ^ j % 2 ^ 64) k .1 (rw (← w .same) (w .digit), one-digit l k .1 (sym (w .same))),
+)
+
 -- One pair more, as the code writes it.
 module _ {r : List ℕ} (is : IsRelation r) {a b : ℕ} (ha : a < 64) (hb : b < 64) where
   abbrev more : List ℕ
@@ -214,6 +231,13 @@ built-more {P} {n} {s} {y} f l h r = record {
         let e : getD (set s n y) n 0 ≡ y = getD-set-same s n y 0 (omega (arith, h .is .rows)) in
         rw p (λ x. r k .0 (rw e at (x .digit)), λ x. record { digit = rw e (r k .1 x) })
     go j k m (no p) = (λ x. h .at j k (omega arith) .0 (record { digit = rw (other j p) at (x .digit) }), λ x. record { digit = rw (other j p) (h .at j k (omega arith) .1 x .digit) })
+
+-- A row that P says nothing of is left as it is.
+pub built-skip : {P : ℕ → ℕ → Type 0} {n : ℕ} {s : List ℕ} → ((k : ℕ) → P n k → ⊥) → Built P n s → Built P (n + 1) s
+built-skip {P} {n} {s} none h = record { is = h .is; at = λ j k m. go j k m (ℕ-discrete j n); past = λ j k m. h .past j k (omega arith) } where
+  go : (j k : ℕ) → j < n + 1 → Dec (j ≡ n) → Holds s j k ↔ P j k
+  go j k m (yes p) = rw p (λ x. absurd (h .past n k (omega arith) x), λ x. absurd (none k x))
+  go j k m (no p) = h .at j k (omega arith)
 
 pub built-all : {P : ℕ → ℕ → Type 0} {n m : ℕ} {s : List ℕ} → m ≤ n → ((j k : ℕ) → P j k → j < m) → Built P n s → HoldsExactly s P
 built-all {P} {n} {m} {s} l p h = record { at = λ j k. (λ x. forth j k x (decLt j n), λ x. h .at j k (omega (arith, p j k x)) .1 x) } where

@@ -51,12 +51,12 @@ bit-digits (suc n) f k l =
     low false q = rw (zero-add (digits n f))
 
 -- A list of the values of a function.
-length-list : (n : ℕ) (f : ℕ → ℕ) → length (listOf n f) ≡ n
+pub length-list : (n : ℕ) (f : ℕ → ℕ) → length (listOf n f) ≡ n
 unfolding listOf
 length-list zero f = refl
 length-list (suc n) f = ap suc (length-list n (λ i. f (suc i)))
 
-get-list : (n : ℕ) (f : ℕ → ℕ) (i : ℕ) → i < n → getD (listOf n f) i 0 ≡ f i
+pub get-list : (n : ℕ) (f : ℕ → ℕ) (i : ℕ) → i < n → getD (listOf n f) i 0 ≡ f i
 unfolding listOf
 get-list zero f i l = absurd (omega arith)
 get-list (suc n) f zero l = refl

@@ -2,43 +2,61 @@
 use Prim.Native.Nat.{ℕ, zero, suc, _+_, _*_, _%_, _^_, _≤_, _<_}
 use mathlib.Core.List.{List}
 use mathlib.Core.Logic.{_↔_, _⊎_, inl, inr, ⊎-elim}
-use mathlib.Core.Path.{_≡_, refl, sym, ap, _∙_}
+use mathlib.Core.Path.{_≡_, refl, sym, ap, subst, _∙_}
 use native.Mathlib.Nat.{eq-or-lt-of-le, pow-suc}
 use native.Mathlib.Omega.{arith}
 use lib.Bits.{bitOr}
 use lib.Count.{ones, trailingZeros}
 use lib.ListN.{getD, set, replicate}
 use Rattle.relation.specs.Digits.{bit, total}
-use Rattle.relation.specs.Relations.{Holds, HoldsExactly, IsRelation, With, Turned, DigitsExactly, SecondHalf, sizeOf}
+use Rattle.relation.specs.Relations.{Holds, HoldsExactly, IsRelation, With, Joined, Turned, DigitsExactly, InSome, SecondHalf, sizeOf}
 use Rattle.relation.specs.Rows.{Reached, Spread}
 use Rattle.relation.proofs.Digits.{bit-zero, Drop, lowest, Walked, Part, part-all, walked-none, walked-all, part-less, walked-more, ones-total, total-more}
 use Rattle.relation.proofs.Relations.{holds-inside, zeros-relation, zeros-hold, or-digit, with-relation, with-pair}
 
--- y has what the digits of x walked so far reach.
-pub record JoinedSoFar (x : ℕ) (s : List ℕ) (z y : ℕ) : Type 0 where
+-- y has what the digits of x walked so far give: digit i gives each l of which P says so.
+pub record JoinedSoFar (x : ℕ) (P : ℕ → ℕ → Type 0) (z y : ℕ) : Type 0 where
   pub part : Part x z
-  pub at : (l : ℕ) → (bit y l ≡ 1) ↔ ((i : ℕ) × Walked x z i × Holds s i l)
+  pub at : (l : ℕ) → (bit y l ≡ 1) ↔ ((i : ℕ) × Walked x z i × P i l)
 
-pub joined-none : (x : ℕ) (s : List ℕ) → JoinedSoFar x s x 0
-joined-none x s = record { part = part-all x; at = λ l. (λ e. absurd (omega (arith, bit-zero l)), λ w. absurd (walked-none (w .1))) }
+pub joined-none : (x : ℕ) (P : ℕ → ℕ → Type 0) → JoinedSoFar x P x 0
+joined-none x P = record { part = part-all x; at = λ l. (λ e. absurd (omega (arith, bit-zero l)), λ w. absurd (walked-none (w .1))) }
 
-pub joined-more : {n x : ℕ} {s : List ℕ} {z y k z′ : ℕ} → JoinedSoFar x s z y → Drop n z k z′ → JoinedSoFar x s z′ (bitOr y (getD s k 0))
-joined-more {n} {x} {s} {z} {y} {k} {z′} h d = record { part = part-less (h .part) d; at = λ l. (λ e. forth l (or-digit _ _ l .0 e), λ w. or-digit _ _ l .1 (back l w (walked-more (h .part) d (w .0) .0 (w .1)))) } where
-  forth : (l : ℕ) → (bit y l ≡ 1) ⊎ (bit (getD s k 0) l ≡ 1) → (i : ℕ) × Walked x z′ i × Holds s i l
-  forth l (inl e) = let w = h .at l .0 e in (w .0, walked-more (h .part) d (w .0) .1 (inl (w .1)), w .2)
-  forth l (inr e) = (k, walked-more (h .part) d k .1 (inr refl), record { digit = e })
+pub joined-more : {n x : ℕ} {P : ℕ → ℕ → Type 0} {z y k z′ v : ℕ} → JoinedSoFar x P z y → Drop n z k z′ → DigitsExactly v (P k) → JoinedSoFar x P z′ (bitOr y v)
+joined-more {n} {x} {P} {z} {y} {k} {z′} {v} h d g = record {
+  part = part-less (h .part) d;
+  at = λ l. (λ e. forth l (or-digit _ _ l .0 e), λ w. or-digit _ _ l .1 (back l w (walked-more (h .part) d (w .0) .0 (w .1))));
+}
+  where
+    forth : (l : ℕ) → (bit y l ≡ 1) ⊎ (bit v l ≡ 1) → (i : ℕ) × Walked x z′ i × P i l
+    forth l (inl e) = let w = h .at l .0 e in (w .0, walked-more (h .part) d (w .0) .1 (inl (w .1)), w .2)
+    forth l (inr e) = (k, walked-more (h .part) d k .1 (inr refl), g .at l .0 e)
 
-  back : (l : ℕ) (w : (i : ℕ) × Walked x z′ i × Holds s i l) → Walked x z (w .0) ⊎ (w .0 ≡ k) → (bit y l ≡ 1) ⊎ (bit (getD s k 0) l ≡ 1)
-  back l w (inl v) = inl (h .at l .1 (w .0, v, w .2))
-  back l w (inr e) = inr ((rw e at (w .2)) .digit)
+    back : (l : ℕ) (w : (i : ℕ) × Walked x z′ i × P i l) → Walked x z (w .0) ⊎ (w .0 ≡ k) → (bit y l ≡ 1) ⊎ (bit v l ≡ 1)
+    back l w (inl o) = inl (h .at l .1 (w .0, o, w .2))
+    back l w (inr e) = inr (g .at l .1 (subst (λ i. P i l) e (w .2)))
 
-pub joined-all : {x : ℕ} {s : List ℕ} {y : ℕ} → JoinedSoFar x s 0 y → DigitsExactly y (Reached x s)
-joined-all h = record {
+pub joined-all : {x : ℕ} {P : ℕ → ℕ → Type 0} {y : ℕ} → JoinedSoFar x P 0 y → (l : ℕ) → (bit y l ≡ 1) ↔ ((i : ℕ) × (bit x i ≡ 1) × P i l)
+joined-all h l = (λ e. let w = h .at l .0 e in (w .0, w .1 .had, w .2), λ w. h .at l .1 (w .0, walked-all (w .1), w .2))
+
+-- A row gives what it holds.
+pub row-digits : (s : List ℕ) (k : ℕ) → DigitsExactly (getD s k 0) (Holds s k)
+row-digits s k = record { at = λ l. (λ e. record { digit = e }, λ h. h .digit) }
+
+pub reached-all : {x : ℕ} {s : List ℕ} {y : ℕ} → JoinedSoFar x (Holds s) 0 y → DigitsExactly y (Reached x s)
+reached-all h = record {
   at = λ l. (
-    λ e. (let w = h .at l .0 e in record { by = w .0; first = w .1 .had; second = w .2 }),
-    λ w. h .at l .1 (w .by, walked-all (w .first), w .second),
+    λ e. (let w = joined-all h l .0 e in record { by = w .0; first = w .1; second = w .2 }),
+    λ w. joined-all h l .1 (w .by, w .first, w .second),
   );
 }
+
+-- A joined row is a row of two relations joined.
+pub joined-digits : {r s : List ℕ} {j y : ℕ} → DigitsExactly y (Reached (getD r j 0) s) → (k : ℕ) → (bit y k ≡ 1) ↔ Joined r s j k
+joined-digits h k = (
+  λ d. let w = h .at k .0 d in record { by = w .by; first = record { digit = w .first }; second = w .second },
+  λ w. h .at k .1 (record { by = w .by; first = w .first .digit; second = w .second }),
+)
 
 -- s is r with the pairs (i, j) for the digits i of x walked so far.
 pub record SpreadSoFar (r : List ℕ) (x j z : ℕ) (s : List ℕ) : Type 0 where
@@ -103,28 +121,28 @@ turned-all l is h = record {
   );
 }
 
--- y has the digits of the first n rows of r.
-pub record Gathered (r : List ℕ) (n y : ℕ) : Type 0 where
-  pub at : (k : ℕ) → (bit y k ≡ 1) ↔ ((j : ℕ) × (j < n) × Holds r j k)
+-- Words put together one after the other.
+pub gathered-none : (words : List ℕ) (from : ℕ) → DigitsExactly 0 (InSome words from from)
+gathered-none words from = record { at = λ k. (λ e. absurd (omega (arith, bit-zero k)), λ w. absurd (omega (arith, w .after, w .before))) }
 
-pub gathered-none : (r : List ℕ) → Gathered r 0 0
-gathered-none r = record { at = λ k. (λ e. absurd (omega (arith, bit-zero k)), λ w. absurd (omega (arith, w .1))) }
+pub gathered-more : {words : List ℕ} {from n y : ℕ} → from ≤ n → DigitsExactly y (InSome words from n) → DigitsExactly (bitOr y (getD words n 0)) (InSome words from (n + 1))
+gathered-more {words} {from} {n} {y} l h = record {
+  at = λ k. (λ e. forth k (or-digit _ _ k .0 e), λ w. or-digit _ _ k .1 (back k w (eq-or-lt-of-le (omega (arith, w .before)))));
+}
+  where
+    forth : (k : ℕ) → (bit y k ≡ 1) ⊎ (bit (getD words n 0) k ≡ 1) → InSome words from (n + 1) k
+    forth k (inl e) = let w = h .at k .0 e in record { place = w .place; after = w .after; before = omega (arith, w .before); digit = w .digit }
+    forth k (inr e) = record { place = n; after = l; before = omega arith; digit = e }
 
-pub gathered-more : {r : List ℕ} {n y : ℕ} → Gathered r n y → Gathered r (n + 1) (bitOr y (getD r n 0))
-gathered-more {r} {n} {y} h = record { at = λ k. (λ e. forth k (or-digit _ _ k .0 e), λ w. or-digit _ _ k .1 (back k w (eq-or-lt-of-le (omega (arith, w .1))))) } where
-  forth : (k : ℕ) → (bit y k ≡ 1) ⊎ (bit (getD r n 0) k ≡ 1) → (j : ℕ) × (j < n + 1) × Holds r j k
-  forth k (inl e) = let w = h .at k .0 e in (w .0, omega (arith, w .1), w .2)
-  forth k (inr e) = (n, omega arith, record { digit = e })
+    back : (k : ℕ) (w : InSome words from (n + 1) k) → (w .place ≡ n) ⊎ (w .place < n) → (bit y k ≡ 1) ⊎ (bit (getD words n 0) k ≡ 1)
+    back k w (inl e) = inr (rw (← e) (w .digit))
+    back k w (inr g) = inl (h .at k .1 (record { place = w .place; after = w .after; before = g; digit = w .digit }))
 
-  back : (k : ℕ) (w : (j : ℕ) × (j < n + 1) × Holds r j k) → (w .0 ≡ n) ⊎ (w .0 < n) → (bit y k ≡ 1) ⊎ (bit (getD r n 0) k ≡ 1)
-  back k w (inl e) = inr ((rw e at (w .2)) .digit)
-  back k w (inr l) = inl (h .at k .1 (w .0, l, w .2))
-
-pub gathered-all : {r : List ℕ} {n y : ℕ} → 64 ≤ n → IsRelation r → Gathered r n y → DigitsExactly y (SecondHalf r)
+pub gathered-all : {r : List ℕ} {n y : ℕ} → 64 ≤ n → IsRelation r → DigitsExactly y (InSome r 0 n) → DigitsExactly y (SecondHalf r)
 gathered-all l is h = record {
   at = λ k. (
-    λ e. let w = h .at k .0 e in record { first = w .0; held = w .2 },
-    λ w. h .at k .1 (w .first, omega (arith, holds-inside is (w .held)), w .held),
+    λ e. let w = h .at k .0 e in record { first = w .place; held = record { digit = w .digit } },
+    λ w. h .at k .1 (record { place = w .first; after = omega arith; before = omega (arith, holds-inside is (w .held)); digit = w .held .digit }),
   );
 }
 

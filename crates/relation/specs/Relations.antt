@@ -1,5 +1,5 @@
 -- Document 01, "Pairs, levels, trimmed states" and "Places and their forms": a relation between numbers below 64 as an array of 64 rows of 64 digits.
-use Prim.Native.Nat.{ℕ, zero, suc, _^_, _<_}
+use Prim.Native.Nat.{ℕ, zero, suc, _^_, _<_, _≤_}
 use mathlib.Core.Bool.{Bool, true, false}
 use mathlib.Core.List.{List, [], _∷_}
 use mathlib.Core.Logic.{_↔_, _⊎_}
@@ -25,6 +25,11 @@ pub record IsRelation (r : List ℕ) : Type 0 where
   pub rows : length r ≡ 64
   pub fits : (j : ℕ) → getD r j 0 < 2 ^ 64
 
+-- 64 rows, none of which from number n on has a pair.
+pub record RowsBelow (n : ℕ) (r : List ℕ) : Type 0 where
+  pub rows : length r ≡ 64
+  pub past : (j : ℕ) → n ≤ j → getD r j 0 ≡ 0
+
 -- No pair.
 pub data NoPair (j k : ℕ) : Type 0 where
 
@@ -32,6 +37,11 @@ pub data NoPair (j k : ℕ) : Type 0 where
 pub record Identity (n j k : ℕ) : Type 0 where
   pub same : j ≡ k
   pub low : j < n
+
+-- Each number whose digit of x is 1 with itself.
+pub record Diagonal (x j k : ℕ) : Type 0 where
+  pub same : j ≡ k
+  pub digit : bit x j ≡ 1
 
 -- The pairs of r, and (a, b).
 pub record With (r : List ℕ) (a b j k : ℕ) : Type 0 where
@@ -59,6 +69,13 @@ pub record Turned (r : List ℕ) (j k : ℕ) : Type 0 where
 -- The digits of x that are 1 are those that P says.
 pub record DigitsExactly (x : ℕ) (P : ℕ → Type 0) : Type 0 where
   pub at : (k : ℕ) → (bit x k ≡ 1) ↔ P k
+
+-- In one of the words from one place to before another digit k is 1.
+pub record InSome (words : List ℕ) (from to k : ℕ) : Type 0 where
+  pub place : ℕ
+  pub after : from ≤ place
+  pub before : place < to
+  pub digit : bit (getD words place 0) k ≡ 1
 
 -- A pair of r ends with k.
 pub record SecondHalf (r : List ℕ) (k : ℕ) : Type 0 where

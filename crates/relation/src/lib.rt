@@ -1,10 +1,11 @@
 // Relations between numbers below 64, by value: an array of 64 rows, and (j, k) is held where digit k of row j is 1.
 //
 // Whatever makes a relation takes those it is made of by value and hands back a new array. A copy has 512 bytes: what looks at one row or one pair
-// borrows the array, and `put` is not for loops.
+// borrows the array, and `put` is not for loops. Rows that stand in memory that was lent are read there: `joined_row`, `join_lent` and `together`.
 ghost use Prim.Native.Nat.{ℕ, _<_, _≤_};
+ghost use lib.ListN.{length};
 ghost use mathlib.Core.Path.{_≡_};
-ghost use Rattle.relation.specs.Relations.{Holds, holds?, HoldsExactly, IsRelation, NoPair, Identity, With, Joined, Either, Both, Turned, DigitsExactly, SecondHalf, TellsNone, sizeOf};
+ghost use Rattle.relation.specs.Relations.{Holds, holds?, HoldsExactly, IsRelation, RowsBelow, NoPair, Identity, Diagonal, With, Joined, Either, Both, Turned, DigitsExactly, InSome, SecondHalf, TellsNone, sizeOf};
 ghost use Rattle.relation.specs.Rows.{Reached, Spread};
 
 // No pair.
@@ -33,6 +34,17 @@ pub fn has(r: &[u64; 64], j: usize, k: usize) -> bool
     (r[j] >> k) % 2 == 1
 }
 
+// Each number whose digit of x is 1 with itself.
+pub fn diagonal(x: u64) -> [u64; 64]
+    ensures { λ t. ⌜ HoldsExactly t (Diagonal x) ⌝ }
+{
+    let mut t = [0u64; 64];
+    for j in 0..64 {
+        t[j] = x & (1u64 << j);
+    }
+    t
+}
+
 // The pairs of r, and (j, k).
 pub fn put(r: [u64; 64], j: usize, k: usize) -> [u64; 64]
     requires { ⌜ (j < 64) × (k < 64) ⌝ }
@@ -47,15 +59,12 @@ pub fn put(r: [u64; 64], j: usize, k: usize) -> [u64; 64]
 pub fn join(r: [u64; 64], s: [u64; 64]) -> [u64; 64]
     ensures { λ t. ⌜ HoldsExactly t (Joined r s) ⌝ }
 {
-    let mut t = [0u64; 64];
-    for j in 0..64 {
-        t[j] = joined_row(r[j], &s);
-    }
-    t
+    join_lent(&r, &s, 64)
 }
 
 // The rows of s that the digits of x name, together. Only digits that are 1 are looked at, from the lowest on.
-fn joined_row(x: u64, s: &[u64; 64]) -> u64
+pub fn joined_row(x: u64, s: &[u64]) -> u64
+    requires { ⌜ 64 ≤ length (now s) ⌝ }
     ensures { λ y. ⌜ DigitsExactly y (Reached x (now (s .entry))) ⌝ }
 {
     let mut y: u64 = 0;
@@ -66,6 +75,18 @@ fn joined_row(x: u64, s: &[u64; 64]) -> u64
         z = z & (z - 1);
     }
     y
+}
+
+// As `join`, of rows that are lent; r has none from row number `count` on.
+pub fn join_lent(r: &[u64], s: &[u64], count: usize) -> [u64; 64]
+    requires { ⌜ (count ≤ 64) × (RowsBelow count (now r) × (64 ≤ length (now s))) ⌝ }
+    ensures { λ t. ⌜ HoldsExactly t (Joined (now (r .entry)) (now (s .entry))) ⌝ }
+{
+    let mut t = [0u64; 64];
+    for j in 0..count {
+        t[j] = joined_row(r[j], s);
+    }
+    t
 }
 
 // The pairs that one or the other has.
@@ -137,9 +158,17 @@ pub fn is_row_empty(r: &[u64; 64], j: usize) -> bool
 pub fn second_halves(r: [u64; 64]) -> u64
     ensures { λ x. ⌜ DigitsExactly x (SecondHalf r) ⌝ }
 {
+    together(&r, 0, 64)
+}
+
+// The digits that are 1 in some word from one place to before another.
+pub fn together(words: &[u64], from: usize, to: usize) -> u64
+    requires { ⌜ (from ≤ to) × (to ≤ length (now words)) ⌝ }
+    ensures { λ x. ⌜ DigitsExactly x (InSome (now (words .entry)) from to) ⌝ }
+{
     let mut x: u64 = 0;
-    for j in 0..64 {
-        x = x | r[j];
+    for i in from..to {
+        x = x | words[i];
     }
     x
 }

@@ -18,7 +18,7 @@ use Rattle.table.specs.Layout.{parse}
 use Rattle.table.specs.Refusals.{verdict}
 use Rattle.table.proofs.CallLaws.{once}
 use Rattle.nesting.specs.Scratch.{scratchSize, withScratch, cleared, scratchAfter}
-use Rattle.nesting.proofs.Lent.{Lent, is-no-table, is-short, is-lent, lent, on-no-table, on-short, on-lent, RefusedFor, lent-refused-iff}
+use Rattle.table.proofs.Lent.{Lent, is-no-table, is-short, is-lent, lent, on-no-table, on-short, on-lent, RefusedFor, lent-refused-iff}
 use Rattle.lengths.specs.Limit.{mostShown}
 use Rattle.shortest.specs.declared.Shown.{Shown}
 use Rattle.shortest.specs.declared.Shown.the-variants as shown
@@ -100,18 +100,18 @@ module _ (s scratch out : List ℕ) where
   meets-no-table {k} v n =
       let bad : verdict s ≡ 0 → ⊥ = λ z. n (sym v ∙ z) in
       meets-refused
-      (on-no-table s scratch (ShowsLog (parse s) out (refused k) out) (Refuses out (refused k) out) bad ∙ ap (Refuses out (refused k) out) v)
-      (on-no-table s scratch (cleared scratch) (λ j. scratch) bad)
+      (on-no-table scratchSize s scratch (ShowsLog (parse s) out (refused k) out) (Refuses out (refused k) out) bad ∙ ap (Refuses out (refused k) out) v)
+      (on-no-table scratchSize s scratch (cleared scratch) (λ j. scratch) bad)
 
   pub meets-short : verdict s ≡ 0 → length scratch < scratchSize → ShortestCall s scratch out (refused 7) scratch out
   meets-short good l =
-      meets-refused (on-short s scratch (ShowsLog (parse s) out (refused 7) out) (Refuses out (refused 7) out) good l) (on-short s scratch (cleared scratch) (λ j. scratch) good l)
+      meets-refused (on-short scratchSize s scratch (ShowsLog (parse s) out (refused 7) out) (Refuses out (refused 7) out) good l) (on-short scratchSize s scratch (cleared scratch) (λ j. scratch) good l)
 
   pub meets-shown : {answer : Answer (Option ℕ)} {left outAfter : List ℕ} → verdict s ≡ 0 → scratchSize ≤ length scratch
       → ShowsLog (parse s) out answer outAfter → left ≡ cleared scratch → ShortestCall s scratch out answer left outAfter
   meets-shown {answer} {left} {outAfter} good l h e = record {
-    answers = subst (λ X. X) (sym (on-lent s scratch (ShowsLog (parse s) out answer outAfter) (Refuses out answer outAfter) good l)) h;
-    leaves = e ∙ sym (on-lent s scratch (cleared scratch) (λ j. scratch) good l);
+    answers = subst (λ X. X) (sym (on-lent scratchSize s scratch (ShowsLog (parse s) out answer outAfter) (Refuses out answer outAfter) good l)) h;
+    leaves = e ∙ sym (on-lent scratchSize s scratch (cleared scratch) (λ j. scratch) good l);
   }
 
   -- The call, case by case: it refuses what is no table, then short scratch, and leaves both memories; else scratch is cleared, and `ShowsLog` says what the table
@@ -154,35 +154,35 @@ module _ (s scratch out : List ℕ) where
   -- From here on one outcome of the call.
   module _ {answer : Answer (Option ℕ)} {left outAfter : List ℕ} (call : ShortestCall s scratch out answer left outAfter) where
     pub shortest-does : Does answer left outAfter
-    shortest-does = by (lent s scratch (ShowsLog (parse s) out answer outAfter) (Refuses out answer outAfter)) where
-      by : Lent s scratch (ShowsLog (parse s) out answer outAfter) (Refuses out answer outAfter) → Does answer left outAfter
+    shortest-does = by (lent scratchSize s scratch (ShowsLog (parse s) out answer outAfter) (Refuses out answer outAfter)) where
+      by : Lent scratchSize s scratch (ShowsLog (parse s) out answer outAfter) (Refuses out answer outAfter) → Does answer left outAfter
       by (is-no-table n e) =
           let r : Refuses out answer outAfter (verdict s) = subst (λ X. X) e (call .answers) in
-          no-table n (r .number) (call .leaves ∙ on-no-table s scratch (cleared scratch) (λ j. scratch) n) (r .kept)
+          no-table n (r .number) (call .leaves ∙ on-no-table scratchSize s scratch (cleared scratch) (λ j. scratch) n) (r .kept)
       by (is-short z l e) =
           let r : Refuses out answer outAfter 7 = subst (λ X. X) e (call .answers) in
-          no-scratch z l (r .number) (call .leaves ∙ on-short s scratch (cleared scratch) (λ j. scratch) z l) (r .kept)
-      by (is-lent z l e) = shows z l (subst (λ X. X) e (call .answers)) (call .leaves ∙ on-lent s scratch (cleared scratch) (λ j. scratch) z l)
+          no-scratch z l (r .number) (call .leaves ∙ on-short scratchSize s scratch (cleared scratch) (λ j. scratch) z l) (r .kept)
+      by (is-lent z l e) = shows z l (subst (λ X. X) e (call .answers)) (call .leaves ∙ on-lent scratchSize s scratch (cleared scratch) (λ j. scratch) z l)
 
     -- The answer, as a call that is lent scratch has it; and what a table with enough scratch is answered with.
     answer-lent : withScratch s scratch answer refused ≡ answer
     answer-lent = by shortest-does where
       by : Does answer left outAfter → withScratch s scratch answer refused ≡ answer
-      by (no-table n e c o) = on-no-table s scratch answer refused n ∙ sym e
-      by (no-scratch z l e c o) = on-short s scratch answer refused z l ∙ sym e
-      by (shows z l h c) = on-lent s scratch answer refused z l
+      by (no-table n e c o) = on-no-table scratchSize s scratch answer refused n ∙ sym e
+      by (no-scratch z l e c o) = on-short scratchSize s scratch answer refused z l ∙ sym e
+      by (shows z l h c) = on-lent scratchSize s scratch answer refused z l
 
     shown-here : verdict s ≡ 0 → scratchSize ≤ length scratch → ShowsLog (parse s) out answer outAfter
-    shown-here good l = subst (λ X. X) (on-lent s scratch (ShowsLog (parse s) out answer outAfter) (Refuses out answer outAfter) good l) (call .answers)
+    shown-here good l = subst (λ X. X) (on-lent scratchSize s scratch (ShowsLog (parse s) out answer outAfter) (Refuses out answer outAfter) good l) (call .answers)
 
     says-iff : verdict s ≡ 0 → scratchSize ≤ length scratch → (b : Answer (Option ℕ)) → (answer ≡ b) ↔ Says (parse s) out b
     says-iff good l = shows-iff (parse s) out (shown-here good l)
 
     -- The numbers that refuse: those for the bytes and the scratch, then 10 and 9, and no other.
     pub shortest-refused-iff : AreBytes s → (k : ℕ)
-        → (answer ≡ refused k) ↔ (RefusedFor s scratch k ⊎ ((verdict s ≡ 0) × (scratchSize ≤ length scratch) × RefusedShortest (parse s) out k))
+        → (answer ≡ refused k) ↔ (RefusedFor scratchSize s scratch k ⊎ ((verdict s ≡ 0) × (scratchSize ≤ length scratch) × RefusedShortest (parse s) out k))
     shortest-refused-iff bytes k =
-        let reasons = lent-refused-iff s scratch answer bytes k in (
+        let reasons = lent-refused-iff scratchSize s scratch answer bytes k in (
           λ e. ⊎-elim inl (λ w. inr (w .0, w .1, says-iff (w .0) (w .1) (refused k) .0 e)) (reasons .0 (answer-lent ∙ e)),
           ⊎-elim (λ r. sym answer-lent ∙ reasons .1 (inl r)) (λ w. says-iff (w .0) (w .1) (refused k) .1 (w .2)),
         )
@@ -247,10 +247,10 @@ module _ (s scratch out : List ℕ) where
 
   -- The answer, scratch and the output are determined, but for the choice among shortest logs.
   same-answer : {a b : Answer (Option ℕ)} {c d o p : List ℕ} → ShortestCall s scratch out a c o → ShortestCall s scratch out b d p → a ≡ b
-  same-answer {a} {b} x y = by (lent s scratch a refused) where
-    by : Lent s scratch a refused → a ≡ b
-    by (is-no-table n e) = sym (answer-lent x) ∙ e ∙ sym (on-no-table s scratch b refused n) ∙ answer-lent y
-    by (is-short z l e) = sym (answer-lent x) ∙ e ∙ sym (on-short s scratch b refused z l) ∙ answer-lent y
+  same-answer {a} {b} x y = by (lent scratchSize s scratch a refused) where
+    by : Lent scratchSize s scratch a refused → a ≡ b
+    by (is-no-table n e) = sym (answer-lent x) ∙ e ∙ sym (on-no-table scratchSize s scratch b refused n) ∙ answer-lent y
+    by (is-short z l e) = sym (answer-lent x) ∙ e ∙ sym (on-short scratchSize s scratch b refused z l) ∙ answer-lent y
     by (is-lent z l e) = says-iff x z l b .1 (shows-says (parse s) out (shown-here y z l))
 
   pub shortest-once : (r q : Shown) (c d o p : List ℕ) → ShortestCall s scratch out (shownAs r) c o → ShortestCall s scratch out (shownAs q) d p

@@ -177,6 +177,13 @@ pub kind-none : (s : List ℕ) (a : ℕ) → letterCount (parse s) ≤ a → kin
 unfolding kindOf
 kind-none s a l = rw (no-element ((parse s) .kinds) a l)
 
+-- A letter of the table is told a kind, and its own.
+pub told-kind : (s : List ℕ) {a : ℕ} {kind : Kind} → a < letterCount (parse s) → some kind ≡ kindAnswer s a → kindIn (parse s) a ≡ kind
+told-kind s {a} {kind} l e = let w : some (kindIn (parse s) a) ≡ some kind = sym (e ∙ kind-there s a l) in cc
+
+pub told-none : (s : List ℕ) {a : ℕ} → a < letterCount (parse s) → none ≡ kindAnswer s a → ⊥
+told-none s {a} l e = let w : none ≡ some (kindIn (parse s) a) = e ∙ kind-there s a l in let z : _≡_ {A = ℕ} 0 1 = cc in omega arith
+
 -- A write refuses as a check does, then for want of room; else the table stands in front, and what lies past it stays.
 pub data Write (s out : List ℕ) : Type 0 where
   no-table : (verdict s ≡ 0 → ⊥) → writeAnswer s out ≡ refused (verdict s) → writeOut s out ≡ out → Write s out

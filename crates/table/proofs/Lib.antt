@@ -5,6 +5,7 @@ pub mod Copied
 pub mod Entries
 pub mod Filled
 pub mod Ladder
+pub mod Lent
 pub mod Order
 pub mod Parsing
 pub mod Parts

@@ -16,6 +16,10 @@ use Rattle.table.specs.Refusals.{verdict}
 abbrev pub forTable {ℓ} : {X : Type ℓ} → List ℕ → X → (ℕ → X) → X
 forTable s good refusal = cond (eqb (verdict s) 0) good (refusal (verdict s))
 
+-- The same for a call that is lent memory for its work, of so many numbers at least: the number of the bytes comes first, then 7.
+abbrev pub withLent {ℓ} : {X : Type ℓ} → ℕ → List ℕ → List ℕ → X → (ℕ → X) → X
+withLent size s lent good refusal = forTable s (cond (ltb (length lent) size) (refusal 7) good) refusal
+
 -- A check: the counts, as the head has them.
 abbrev pub headCounts : List ℕ → Counts
 headCounts s = record { n = statesField s; m = lettersField s; g = marksField s; t = movesField s }

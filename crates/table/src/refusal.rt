@@ -29,3 +29,15 @@ pub const ROOM: u8 = 9;
 
 // More letters than a log that is shown may have, in each log that is accepted.
 pub const LONG: u8 = 10;
+
+// A letter that is not one of the table's.
+pub const LETTER: u8 = 11;
+
+// More letters than a log may have.
+pub const LETTERS: u8 = 12;
+
+// An open where there is no room for a deeper block.
+pub const DEPTH: u8 = 13;
+
+// Words that do not stand for a reader's state on this table.
+pub const STATE: u8 = 14;

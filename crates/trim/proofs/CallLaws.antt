@@ -25,7 +25,7 @@ use Rattle.table.proofs.CallLaws.{once}
 use Rattle.table.proofs.Parsing.{parse-unparse, unparse-bytes}
 use Rattle.table.proofs.Tables.{good-storable, good-table, storable-good}
 use Rattle.nesting.specs.Scratch.{scratchSize, withScratch, cleared}
-use Rattle.nesting.proofs.Lent.{Lent, is-no-table, is-short, is-lent, lent, on-no-table, on-short, on-lent, RefusedFor, lent-refused-iff}
+use Rattle.table.proofs.Lent.{Lent, is-no-table, is-short, is-lent, lent, on-no-table, on-short, on-lent, RefusedFor, lent-refused-iff}
 use Rattle.trim.specs.declared.Trimmed.{Trimmed}
 use Rattle.trim.specs.declared.Trimmed.the-variants as trimmed
 use Rattle.trim.specs.Answers.{trimmedAs}
@@ -112,18 +112,18 @@ module _ (s scratch out : List ℕ) where
   )
 
   pub meets-no-table : {k : ℕ} → verdict s ≡ k → (k ≡ 0 → ⊥) → Meets s scratch out (refused k) scratch out
-  meets-no-table v n = meets-refused (λ X x f. on-no-table s scratch x f (λ z. n (sym v ∙ z)) ∙ ap f v)
+  meets-no-table v n = meets-refused (λ X x f. on-no-table scratchSize s scratch x f (λ z. n (sym v ∙ z)) ∙ ap f v)
 
   pub meets-short : verdict s ≡ 0 → length scratch < scratchSize → Meets s scratch out (refused 7) scratch out
-  meets-short good l = meets-refused (λ X x f. on-short s scratch x f good l)
+  meets-short good l = meets-refused (λ X x f. on-short scratchSize s scratch x f good l)
 
   pub meets-written : {answer : Answer ℕ} {after outAfter : List ℕ} → verdict s ≡ 0 → scratchSize ≤ length scratch
       → MeetsWritten (trimTable (parse s)) out answer outAfter → after ≡ cleared scratch → Meets s scratch out answer after outAfter
   meets-written good l w e = (
-    w .0 ∙ sym (on-lent s scratch (writtenAnswer (trimTable (parse s)) out) refused good l),
+    w .0 ∙ sym (on-lent scratchSize s scratch (writtenAnswer (trimTable (parse s)) out) refused good l),
     (
-      e ∙ sym (on-lent s scratch (cleared scratch) (λ j. scratch) good l),
-      w .1 ∙ sym (on-lent s scratch (writtenOut (trimTable (parse s)) out) (λ j. out) good l),
+      e ∙ sym (on-lent scratchSize s scratch (cleared scratch) (λ j. scratch) good l),
+      w .1 ∙ sym (on-lent scratchSize s scratch (writtenOut (trimTable (parse s)) out) (λ j. out) good l),
     ),
   )
 
@@ -152,8 +152,8 @@ pub data Trims (s scratch out : List ℕ) : Type 0 where
       → Meets s scratch out (answered (length (trimmedBytes s))) (cleared scratch) (trimmedBytes s ++ drop (length (trimmedBytes s)) out) → Trims s scratch out
 
 pub trim-does : (s scratch out : List ℕ) → Trims s scratch out
-trim-does s scratch out = by (lent s scratch out (λ k. out)) (writes (trimTable (parse s)) out) where
-  by : Lent s scratch out (λ k. out) → Writes (trimTable (parse s)) out → Trims s scratch out
+trim-does s scratch out = by (lent scratchSize s scratch out (λ k. out)) (writes (trimTable (parse s)) out) where
+  by : Lent scratchSize s scratch out (λ k. out) → Writes (trimTable (parse s)) out → Trims s scratch out
   by (is-no-table n e) w = no-table n (meets-no-table s scratch out refl n)
   by (is-short z l e) w = no-scratch z l (meets-short s scratch out z l)
   by (is-lent z l e) (writes-over o m) = too-large z l o (meets-written s scratch out z l m refl)
@@ -220,9 +220,9 @@ module _ (s scratch out : List ℕ) where
   -- The numbers that refuse: those for the bytes and the scratch, then 8 and 9, and no other.
   pub trim-refused-iff : AreBytes s → (k : ℕ)
       → (trimCall s scratch out .answer ≡ refused k)
-      ↔ (RefusedFor s scratch k ⊎ ((verdict s ≡ 0) × (scratchSize ≤ length scratch) × RefusedTrimmed (trimTable (parse s)) out k))
+      ↔ (RefusedFor scratchSize s scratch k ⊎ ((verdict s ≡ 0) × (scratchSize ≤ length scratch) × RefusedTrimmed (trimTable (parse s)) out k))
   trim-refused-iff bytes k =
-      let reasons = lent-refused-iff s scratch (writtenAnswer (trimTable (parse s)) out) bytes k in
+      let reasons = lent-refused-iff scratchSize s scratch (writtenAnswer (trimTable (parse s)) out) bytes k in
       let further = written-refused-iff (trimTable (parse s)) out k in (
         λ e. ⊎-elim inl (λ w. inr (w .0, w .1, further .0 (w .2))) (reasons .0 e),
         ⊎-elim (λ r. reasons .1 (inl r)) (λ w. reasons .1 (inr (w .0, w .1, further .1 (w .2)))),
@@ -280,7 +280,7 @@ module _ (s scratch out : List ℕ) where
   -- 8 and 9 are exact, so no trim that could be written is refused.
   module _ (good : verdict s ≡ 0) (long : scratchSize ≤ length scratch) where
     answer-lent : trimCall s scratch out .answer ≡ writtenAnswer (trimTable (parse s)) out
-    answer-lent = on-lent s scratch (writtenAnswer (trimTable (parse s)) out) refused good long
+    answer-lent = on-lent scratchSize s scratch (writtenAnswer (trimTable (parse s)) out) refused good long
 
     pub eight-exact : (trimCall s scratch out .answer ≡ refused 8) ↔ Over (trimTable (parse s))
     eight-exact =

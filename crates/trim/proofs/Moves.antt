@@ -3,7 +3,6 @@ use Prim.Native.Nat.{ℕ, _≤_, _<_}
 use mathlib.Core.Bool.{Bool, _&&_}
 use mathlib.Core.List.{List, [], map, append-nil, List·Memᴰ}
 use mathlib.Core.Logic.{_↔_}
-use mathlib.Core.Option.{none, some}
 use mathlib.Core.Path.{_≡_, refl, sym, ap, subst, _∙_}
 use native.Mathlib.Omega.{arith}
 use lib.Bits.{bitAnd}
@@ -17,10 +16,8 @@ use Rattle.vpa.specs.TrimComputed.{noTrio, trimStates, trimMarks, trimPlain?, t
 use Rattle.vpa.proofs.Each.{each-same, each-none, sift-below}
 use Rattle.vpa.proofs.Lists.{and, both, any-intro, any-elim, sift-elim, get-mem, no-members, below-elim}
 use Rattle.vpa.proofs.TableMoves.{entry-cast, has-iff}
-use Rattle.table.specs.Calls.{kindAnswer}
 use Rattle.table.specs.Layout.{entries, parse}
 use Rattle.table.specs.Refusals.{verdict}
-use Rattle.table.proofs.CallLaws.{kind-there}
 use Rattle.relation.specs.Digits.{bit}
 use Rattle.relation.specs.Relations.{Holds, holds?, HoldsExactly}
 use Rattle.relation.proofs.Relations.{held-iff-test, and-digit}
@@ -247,13 +244,6 @@ unfolding movesBy movesAs
 no-rows {t} {from} {a} is-from never =
     each-none _ _ (λ k m. ap (map (λ j. entry (from .number) a k j))
     (sift-none _ (λ j l h. never _ (some-move t (from .number) a (kindIn t a) k j h .1) (sym (is-from .state), refl))))
-
--- A letter of the table is told a kind, and its own.
-pub told-kind : (s : List ℕ) {a : ℕ} {kind : Kind} → a < letterCount (parse s) → some kind ≡ kindAnswer s a → kindIn (parse s) a ≡ kind
-told-kind s {a} {kind} l e = let w : some (kindIn (parse s) a) ≡ some kind = sym (e ∙ kind-there s a l) in cc
-
-pub told-none : (s : List ℕ) {a : ℕ} → a < letterCount (parse s) → none ≡ kindAnswer s a → ⊥
-told-none s {a} l e = let w : none ≡ some (kindIn (parse s) a) = e ∙ kind-there s a l in let z : _≡_ {A = ℕ} 0 1 = cc in omega arith
 
 -- The numbers in a row of these moves fit a place of scratch.
 pub number-low : {t : Table} {here mark entered outer : List ℕ} {from : From} → Guides t here mark entered outer → IsFrom t from → from .number < 65536

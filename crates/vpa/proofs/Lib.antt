@@ -12,6 +12,7 @@ pub mod TrimmedStates
 pub mod TrimmedMoves
 pub mod TrimmedTable
 pub mod TableReader
+pub mod ReaderStates
 pub mod Lengths
 pub mod Each
 pub mod ShortestLogs

@@ -3,12 +3,12 @@ use Prim.Native.Nat.{ℕ, zero, suc, _<_, _%_, _/_}
 use native.Mathlib.Omega.{arith}
 use mathlib.Core.Path.{_≡_, refl, sym, subst}
 use mathlib.Core.Bool.{Bool, _&&_}
-use mathlib.Core.List.{List, [], _∷_, List·Memᴰ, Memᴰ·cast}
+use mathlib.Core.List.{List, [], _∷_, List·Memᴰ, List·Memᴰ·head, List·Memᴰ·tail, List·Memᴰ·not-nil, Memᴰ·cast}
 use mathlib.Core.Logic.{_↔_}
 use lib.ListN.{length, getD}
 use lib.Dec.{T, eqb, eqb→eq, eqb-refl}
-use Rattle.vpa.specs.Automaton.{Kind, plain, opening, closing, Move, plain-move, open-move, close-move, letter, moveKind}
-use Rattle.vpa.specs.TableOnDisk.{Entry, entry, Table, stateCount, letterCount, kindIn, initial?, final?, InTable, in-plain, in-open, in-close, MarkFits, IsTable, isKind?, isMove?, has?}
+use Rattle.vpa.specs.Automaton.{Kind, plain, opening, closing, Move, plain-move, open-move, close-move, letter, moveKind, Run, run-done, run-plain, run-open, run-close, spells, Accepts}
+use Rattle.vpa.specs.TableOnDisk.{Entry, entry, Table, stateCount, letterCount, kindIn, initial?, final?, InTable, in-plain, in-open, in-close, MarkFits, IsTable, automaton, isKind?, isMove?, has?}
 use Rattle.vpa.proofs.Lists.{both, and, any-intro, any-elim}
 
 -- Kinds.
@@ -108,3 +108,18 @@ initial-bound t p h = get-bound (λ x. eqb (x % 2) 1) (λ z. z) (t .stateBytes) 
 pub final-bound : (t : Table) (p : ℕ) → T (final? t p) → p < stateCount t
 unfolding final?
 final-bound t p h = get-bound (λ x. eqb (x / 2) 1) (λ z. z) (t .stateBytes) p h
+
+-- An accepted log has letters of the table only.
+run-letters : (t : Table) → IsTable t → {p q : ℕ} {σ τ : List ℕ} {ms : List (Move ℕ ℕ)} → Run (automaton t) p σ ms q τ
+    → {a : ℕ} → List·Memᴰ a (spells ms) → a < letterCount t
+unfolding spells letter
+run-letters t fit run-done m = absurd (List·Memᴰ·not-nil m)
+run-letters t fit (run-plain h r) (List·Memᴰ·head e) = rw e (plain-bounds t fit h .1)
+run-letters t fit (run-plain h r) (List·Memᴰ·tail m) = run-letters t fit r m
+run-letters t fit (run-open h r) (List·Memᴰ·head e) = rw e (open-bounds t fit h .1)
+run-letters t fit (run-open h r) (List·Memᴰ·tail m) = run-letters t fit r m
+run-letters t fit (run-close h r) (List·Memᴰ·head e) = rw e (close-bounds t fit h .1)
+run-letters t fit (run-close h r) (List·Memᴰ·tail m) = run-letters t fit r m
+
+pub accepted-letters : (t : Table) → IsTable t → {w : List ℕ} → Accepts (automaton t) w → {a : ℕ} → List·Memᴰ a w → a < letterCount t
+accepted-letters t fit h {a} m = run-letters t fit (h .accepting .runs) (subst (List·Memᴰ a) (sym (h .spelt)) m)

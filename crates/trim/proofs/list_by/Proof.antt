@@ -1,10 +1,11 @@
 use native.Mathlib.Omega.{arith}
 use mathlib.Core.Path.{sym, ap, _∙_}
 use Rattle.table.specs.Answers.{kindAs}
+use Rattle.table.proofs.CallLaws.{told-kind, told-none}
 use Rattle.table.proofs.Tables.{good-table}
 use Rattle.trim.proofs.Blocks.{ends-low}
 use Rattle.triples.proofs.Laying.{appended-same}
-use Rattle.trim.proofs.Moves.{plain-rows, open-rows, close-rows, told-kind, told-none, number-low, letter-low}
+use Rattle.trim.proofs.Moves.{plain-rows, open-rows, close-rows, number-low, letter-low}
 use Rattle.trim.proofs.list_by.Statement.{statement}
 use Rattle.trim.proofs.list_by.Tie as tie
 
