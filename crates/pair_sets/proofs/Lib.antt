@@ -1,0 +1,3 @@
+pub mod Accepting
+pub mod ByLetter
+pub mod Closing
