@@ -1,0 +1,12 @@
+use native.Mathlib.Omega.{arith}
+use mathlib.Core.Path.{refl}
+use Rattle.reader.proofs.Numbers.{most-taken}
+use Rattle.reader.proofs.Head.plain.Statement.{statement}
+use Rattle.reader.proofs.Head.plain.Tie as tie
+
+pub plain-spec : {M : Type 1} → statement M
+plain-spec =
+    tie.close
+    (tie.spec
+    (λ c. omega (arith, most-taken))
+    (λ c. refl))

@@ -1,0 +1,17 @@
+pub mod CallLaws
+pub mod Fitting
+pub mod Illegal
+pub mod InPlace
+pub mod Legal
+pub mod LentRows
+pub mod Letters
+pub mod Meeting
+pub mod Numbers
+pub mod Placing
+pub mod Rows
+pub mod Settling
+pub mod StepParts
+pub mod Traces
+pub mod Verdicts
+pub mod Words
+pub mod Writing
