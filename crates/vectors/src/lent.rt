@@ -1,4 +1,4 @@
-// What is lent to a call, scratch and an output: what they hold before, and whether they hold afterwards what they must.
+// What is lent to a call, scratch, an output and a reader's words: what they hold before, and whether they hold afterwards what they must.
 use crate::lines;
 
 // What scratch holds before it is lent.
@@ -7,8 +7,14 @@ pub const UNTOUCHED: u16 = 7;
 // What an output holds before it is lent.
 pub const UNWRITTEN: u8 = 0xAA;
 
+// What a reader's words hold before they are lent, where they are not zeros.
+pub const OLD_WORD: u64 = 7;
+
 // How many numbers of scratch document 01 has cleared.
 pub const CLEARED: usize = 16384;
+
+// How many words a reader's state has in document 01.
+pub const STATE: usize = 2148;
 
 // The first refusal that leaves zeros in scratch.
 const USED: u8 = 8;
@@ -68,4 +74,19 @@ pub fn front(bytes: &[u8], size: usize) -> &[u8] {
     } else {
         bytes
     }
+}
+
+// Whether the words from one place to before another are the same. Past its end a slice counts as zeros, so the empty slice stands for zeros.
+pub fn same(before: &[u64], after: &[u64], from: usize, to: usize) -> bool {
+    let mut ok = true;
+    for i in 0..after.len() {
+        let asked = (from <= i) & (i < to);
+        ok = ok & (!asked | (after[i] == word(before, i)));
+    }
+    ok
+}
+
+// A word, or 0 past the end.
+pub fn word(words: &[u64], i: usize) -> u64 {
+    if i < words.len() { words[i] } else { 0 }
 }

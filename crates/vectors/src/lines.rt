@@ -42,6 +42,13 @@ pub fn label(words: &[u8]) {
     text(b": ");
 }
 
+// A label that ends in the letters of a log.
+pub fn log_label(words: &[u8], log: &[u8]) {
+    text(words);
+    next_numbers(log);
+    text(b": ");
+}
+
 pub fn end() {
     text(b"\n");
 }

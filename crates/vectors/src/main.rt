@@ -1,7 +1,9 @@
 // Cases of what each library must answer, one line for each. The file `stdout` has the lines that must come.
 mod lent;
 mod lines;
+mod log_cases;
 mod nesting_cases;
+mod reader_cases;
 mod replay;
 mod shortest_cases;
 mod table_cases;
@@ -13,4 +15,6 @@ fn main() {
     nesting_cases::run();
     trim_cases::run();
     shortest_cases::run();
+    reader_cases::run();
+    log_cases::run();
 }

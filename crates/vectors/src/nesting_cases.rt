@@ -122,7 +122,7 @@ fn show_found(found: Found) {
 }
 
 // All that is held, also past the states of the table.
-fn show_rows(rows: [u64; 64], none: &[u8]) {
+pub fn show_rows(rows: [u64; 64], none: &[u8]) {
     lines::text(b",");
     let mut all: u64 = 0;
     for j in 0..64 {

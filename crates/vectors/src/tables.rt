@@ -235,6 +235,47 @@ pub const UNUSED_LETTER: [u8; 29] = [
     0x00,
 ];
 
+// The one state is initial and final. Letters 0 and 4 open, by marks 0 and 1, and letter 1 closes by either; letter 3 is plain. Letter 2 opens and no move has it.
+pub const ONE_STATE: [u8; 34] = [
+    0x00,
+    0x20,
+    0x01,
+    0x01,
+    0x05,
+    0x02,
+    0x00,
+    0x05,
+    0x01,
+    0x02,
+    0x01,
+    0x00,
+    0x01,
+    0x03,
+    0x00,
+    0x00,
+    0x00,
+    0x00,
+    0x00,
+    0x01,
+    0x00,
+    0x00,
+    0x00,
+    0x01,
+    0x01,
+    0x00,
+    0x00,
+    0x03,
+    0x00,
+    0x00,
+    0x00,
+    0x04,
+    0x01,
+    0x00,
+];
+
+// No states, letters, marks or moves.
+pub const EMPTY: [u8; 8] = [0, 6, 1, 0, 0, 0, 0, 0];
+
 // One byte more than the largest table has.
 pub const LARGEST_AND_ONE: usize = 4201;
 
