@@ -13,13 +13,14 @@ use Rattle.vpa.specs.Lists.{Pair}
 use Rattle.vpa.specs.ReaderComputed.{Blocks, ReaderState}
 use Rattle.vpa.specs.TableOnDisk.{Table, stateCount}
 use Rattle.table.specs.Bytes.{all?}
+use Rattle.table.specs.Logs.{longestLog}
 use Rattle.table.proofs.All.{both, and-true, all-elim}
 use Rattle.relation.specs.Relations.{HoldsExactly}
 use Rattle.relation.proofs.RowsOf.{length-list, get-list, rows-relation}
 use Rattle.nesting.specs.Calls.{rows}
 use Rattle.nesting.specs.Scratch.{KeptFrom}
 use Rattle.nesting.proofs.ListedRows.{Listed, rows-listed}
-use Rattle.reader.specs.Layout.{leading, rowCount, blockSize, deepest, stateSize, mostTaken, takenIn, depthIn, stoppedIn, blockPlace, letterIn, rowsIn, pairsIn, blockIn, blocksIn, stateIn, blockWords, wordOf, stateWords, inPlace}
+use Rattle.reader.specs.Layout.{leading, rowCount, blockSize, deepest, stateSize, takenIn, depthIn, stoppedIn, blockPlace, letterIn, rowsIn, pairsIn, blockIn, blocksIn, stateIn, blockWords, wordOf, stateWords, inPlace}
 use Rattle.reader.specs.Refusals.{letterWord?, rows?, block?, leading?, legal?}
 use Rattle.reader.specs.Steps.{Ready}
 use Rattle.reader.proofs.Legal.{legal-ready, ready-legal}
@@ -173,7 +174,7 @@ module _ (t : Table) (words : List ℕ) (small : stateCount t ≤ 64) where
   unfolding legal? leading? stateIn
   legal-fits h =
       let tests = both (leading? words) _ h in
-      let first = both (leb (takenIn words) mostTaken) (leb (depthIn words) deepest) (both _ (leb (stoppedIn words) 1) (tests .0) .0) in
+      let first = both (leb (takenIn words) longestLog) (leb (depthIn words) deepest) (both _ (leb (stoppedIn words) 1) (tests .0) .0) in
       let blocks = both (all? (block? t words) (suc (depthIn words))) _ (tests .1) .0 in
       record {
         taken = leb-true _ _ (first .0);

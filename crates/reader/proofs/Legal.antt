@@ -15,11 +15,12 @@ use Rattle.vpa.specs.Automaton.{opening}
 use Rattle.vpa.specs.TableOnDisk.{Table, stateCount, letterCount, kindIn, isKind?}
 use Rattle.vpa.proofs.TableMoves.{kind-eq}
 use Rattle.table.specs.Bytes.{part, all?}
+use Rattle.table.specs.Logs.{longestLog}
 use Rattle.table.proofs.All.{both, and-true, all-more, all-elim, all-intro}
 use Rattle.table.proofs.Parts.{byte-past-part}
 use Rattle.relation.specs.Relations.{Holds, RowsBelow, DigitsExactly, InSome}
 use Rattle.relation.proofs.Relations.{no-digit}
-use Rattle.reader.specs.Layout.{rowCount, deepest, stateSize, mostTaken, takenIn, depthIn, stoppedIn, blockPlace, letterIn, rowsIn}
+use Rattle.reader.specs.Layout.{rowCount, deepest, stateSize, takenIn, depthIn, stoppedIn, blockPlace, letterIn, rowsIn}
 use Rattle.reader.specs.Refusals.{Broken, many-taken, too-deep, no-flag, first-letter, no-open-letter, no-state, above-depth, leading?, letterWord?, rows?, block?, zeros?, legal?}
 use Rattle.reader.specs.Steps.{Ready}
 use Rattle.reader.proofs.Illegal.{illegal-broken}
@@ -66,14 +67,14 @@ row-inside words d {j} {k} h =
 
 -- The leading words.
 module _ (words : List ℕ) where
-  pub leading-told : leading? words ≡ true → (takenIn words ≤ mostTaken) × (depthIn words ≤ deepest) × (stoppedIn words ≤ 1)
+  pub leading-told : leading? words ≡ true → (takenIn words ≤ longestLog) × (depthIn words ≤ deepest) × (stoppedIn words ≤ 1)
   unfolding leading?
   leading-told h =
-      let w = both (leb (takenIn words) mostTaken && leb (depthIn words) deepest) (leb (stoppedIn words) 1) h in
-      let v = both (leb (takenIn words) mostTaken) (leb (depthIn words) deepest) (w .0) in
+      let w = both (leb (takenIn words) longestLog && leb (depthIn words) deepest) (leb (stoppedIn words) 1) h in
+      let v = both (leb (takenIn words) longestLog) (leb (depthIn words) deepest) (w .0) in
       (leb-true _ _ (v .0), leb-true _ _ (v .1), leb-true _ _ (w .1))
 
-  pub leading-tell : takenIn words ≤ mostTaken → depthIn words ≤ deepest → stoppedIn words ≤ 1 → leading? words ≡ true
+  pub leading-tell : takenIn words ≤ longestLog → depthIn words ≤ deepest → stoppedIn words ≤ 1 → leading? words ≡ true
   unfolding leading?
   leading-tell taken low stopped = and-true (and-true (le-leb _ _ taken) (le-leb _ _ low)) (le-leb _ _ stopped)
 
@@ -109,7 +110,7 @@ module _ (t : Table) (words : List ℕ) {depth : ℕ} (ready : Ready t words dep
 
 -- The test taken apart. The words may be too few for a state.
 record Parts (t : Table) (words : List ℕ) : Type 0 where
-  taken : takenIn words ≤ mostTaken
+  taken : takenIn words ≤ longestLog
   low : depthIn words ≤ deepest
   stopped : stoppedIn words ≤ 1
   block : (d : ℕ) → d ≤ depthIn words → block? t words d ≡ true
@@ -136,10 +137,10 @@ module _ (t : Table) (words : List ℕ) where
       and-true (leading-tell words (p .taken) (p .low) (p .stopped))
       (and-true (all-intro (block? t words) (suc (depthIn words)) (λ d l. p .block d (omega arith))) (zeros-tell words _ _ (p .above)))
 
-  pub legal-ready : stateSize ≤ length words → legal? t words ≡ true → Ready t words (depthIn words) × (takenIn words ≤ mostTaken) × (stoppedIn words ≤ 1)
+  pub legal-ready : stateSize ≤ length words → legal? t words ≡ true → Ready t words (depthIn words) × (takenIn words ≤ longestLog) × (stoppedIn words ≤ 1)
   legal-ready long h = let p = legal-parts h in (record { long = long; low = p .low; block = p .block; above = p .above }, p .taken, p .stopped)
 
-  pub ready-legal : Ready t words (depthIn words) → takenIn words ≤ mostTaken → stoppedIn words ≤ 1 → legal? t words ≡ true
+  pub ready-legal : Ready t words (depthIn words) → takenIn words ≤ longestLog → stoppedIn words ≤ 1 → legal? t words ≡ true
   ready-legal ready taken stopped = parts-legal (record { taken = taken; low = ready .low; stopped = stopped; block = ready .block; above = ready .above })
 
   -- The same as the code finds it.

@@ -1,7 +1,7 @@
 -- What the numbers of the layout come to.
 use Prim.Native.Nat.{ℕ, _+_, _*_}
 use mathlib.Core.Path.{_≡_, refl}
-use Rattle.reader.specs.Layout.{leading, rowCount, blockSize, deepest, stateSize, mostTaken, blockPlace}
+use Rattle.reader.specs.Layout.{leading, rowCount, blockSize, deepest, stateSize, blockPlace}
 
 pub leading-is : leading ≡ 3
 unfolding leading
@@ -18,10 +18,6 @@ deepest-is = refl
 pub state-size : stateSize ≡ 2148
 unfolding stateSize leading blockSize rowCount deepest
 state-size = refl
-
-pub most-taken : mostTaken ≡ 16777215
-unfolding mostTaken
-most-taken = refl
 
 pub block-place : (d : ℕ) → blockPlace d ≡ 3 + 65 * d
 unfolding blockPlace leading blockSize rowCount

@@ -15,11 +15,12 @@ use Rattle.vpa.proofs.Lists.{sorted-sift, sorted-square}
 use Rattle.vpa.proofs.TableMoves.{initial-bound}
 use Rattle.vpa.proofs.TableReader.{lists-start, shows-begin, holds-iff-going}
 use Rattle.vpa.proofs.ReaderStates.{taken-most}
+use Rattle.table.specs.Logs.{longestLog}
 use Rattle.relation.specs.Relations.{Holds, HoldsExactly, IsRelation, TellsNone}
 use Rattle.nesting.specs.Scratch.{KeptFrom}
 use Rattle.nesting.proofs.Cleared.{kept-then, kept-more, kept-drop}
 use Rattle.reader.specs.declared.Head.{Head}
-use Rattle.reader.specs.Layout.{leading, stateSize, mostTaken, takenIn, depthIn, stoppedIn, blockPlace, letterIn, rowsIn, blocksIn, stateIn, stateWords, inPlace}
+use Rattle.reader.specs.Layout.{leading, stateSize, takenIn, depthIn, stoppedIn, blockPlace, letterIn, rowsIn, blocksIn, stateIn, stateWords, inPlace}
 use Rattle.reader.specs.Refusals.{letterWord?, block?, legal?, letterVerdict}
 use Rattle.reader.specs.Steps.{stateWith, Ready, Stepped, Written, headWords}
 use Rattle.reader.proofs.InPlace.{legal-in-place, flag}
@@ -39,7 +40,7 @@ block-kept : (t : Table) {a b : List ℕ} → KeptFrom leading a b → (d : ℕ)
 unfolding block? letterIn rowsIn
 block-kept t h d = rw (h .rest (blockPlace d) (omega (arith, leading-is, block-place d)), kept-drop {q = suc (blockPlace d)} h (omega (arith, leading-is, block-place d)))
 
-module _ (t : Table) (head : Head) {words after last : List ℕ} (small : stateCount t ≤ 64) (ready : Ready t after (head .depth)) (most : head .taken ≤ mostTaken)
+module _ (t : Table) (head : Head) {words after last : List ℕ} (small : stateCount t ≤ 64) (ready : Ready t after (head .depth)) (most : head .taken ≤ longestLog)
     (kept : KeptFrom stateSize words after) (put : Written 0 leading (λ j. getD (headWords head) j 0) after last) where
   put-taken : takenIn last ≡ head .taken
   unfolding headWords

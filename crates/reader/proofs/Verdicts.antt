@@ -11,8 +11,9 @@ use Rattle.vpa.specs.Automaton.{opening}
 use Rattle.vpa.specs.ReaderComputed.{ReaderState}
 use Rattle.vpa.specs.TableOnDisk.{Table, letterCount, kindIn, isKind?}
 use Rattle.vpa.proofs.TableMoves.{kind-eq, kind-test}
+use Rattle.table.specs.Logs.{longestLog}
 use Rattle.reader.specs.declared.Head.{Head}
-use Rattle.reader.specs.Layout.{deepest, mostTaken, depthOf}
+use Rattle.reader.specs.Layout.{deepest, depthOf}
 use Rattle.reader.specs.Refusals.{tooDeep?, letterVerdict, LetterReason, past-letters, log-full, open-too-deep}
 use Rattle.reader.specs.Steps.{stateWith}
 use Rattle.reader.proofs.Words.{blocks-length}
@@ -20,13 +21,13 @@ use Rattle.reader.proofs.Words.{blocks-length}
 -- A letter is refused for the reason there is, or there is none and it may be taken.
 module _ (t : Table) (r : ReaderState) (a : ℕ) where
   pub data Judged : Type 0 where
-    may-go : letterVerdict t r a ≡ 0 → a < letterCount t → r .taken < mostTaken → (kindIn t a ≡ opening → depthOf r < deepest) → Judged
+    may-go : letterVerdict t r a ≡ 0 → a < letterCount t → r .taken < longestLog → (kindIn t a ≡ opening → depthOf r < deepest) → Judged
     may-not : (k : ℕ) → letterVerdict t r a ≡ k → LetterReason t r a k → Judged
 
   pub judged : Judged
   unfolding letterVerdict tooDeep?
-  judged = by (ltb a (letterCount t)) refl (ltb (r .taken) mostTaken) refl (isKind? (kindIn t a) opening) refl (leb deepest (depthOf r)) refl where
-    by : (b : Bool) → ltb a (letterCount t) ≡ b → (c : Bool) → ltb (r .taken) mostTaken ≡ c → (o : Bool) → isKind? (kindIn t a) opening ≡ o
+  judged = by (ltb a (letterCount t)) refl (ltb (r .taken) longestLog) refl (isKind? (kindIn t a) opening) refl (leb deepest (depthOf r)) refl where
+    by : (b : Bool) → ltb a (letterCount t) ≡ b → (c : Bool) → ltb (r .taken) longestLog ≡ c → (o : Bool) → isKind? (kindIn t a) opening ≡ o
         → (d : Bool) → leb deepest (depthOf r) ≡ d → Judged
     by false e c f o g d h = may-not 11 (rw e) (past-letters (ltb-false _ _ e))
     by true e false f o g d h = may-not 12 (rw (e, f)) (log-full (ltb-true _ _ e) (ltb-false _ _ f))
@@ -54,7 +55,7 @@ module _ (t : Table) (r : ReaderState) (a : ℕ) where
     by (may-not j e w) (f, n) = subst (LetterReason t r a) (sym e ∙ f) w
 
   -- Where there is no reason there is no number, and the other way round.
-  pub verdict-none : a < letterCount t → r .taken < mostTaken → (kindIn t a ≡ opening → depthOf r < deepest) → letterVerdict t r a ≡ 0
+  pub verdict-none : a < letterCount t → r .taken < longestLog → (kindIn t a ≡ opening → depthOf r < deepest) → letterVerdict t r a ≡ 0
   verdict-none own more low = by judged where
     none : {k : ℕ} → LetterReason t r a k → ⊥
     none (past-letters l) = omega arith
@@ -65,16 +66,16 @@ module _ (t : Table) (r : ReaderState) (a : ℕ) where
     by (may-go v l g d) = v
     by (may-not k v w) = absurd (none w)
 
-  pub verdict-zero : letterVerdict t r a ≡ 0 → (a < letterCount t) × (r .taken < mostTaken) × (kindIn t a ≡ opening → depthOf r < deepest)
+  pub verdict-zero : letterVerdict t r a ≡ 0 → (a < letterCount t) × (r .taken < longestLog) × (kindIn t a ≡ opening → depthOf r < deepest)
   verdict-zero z = by judged where
-    by : Judged → (a < letterCount t) × (r .taken < mostTaken) × (kindIn t a ≡ opening → depthOf r < deepest)
+    by : Judged → (a < letterCount t) × (r .taken < longestLog) × (kindIn t a ≡ opening → depthOf r < deepest)
     by (may-go v l g d) = (l, g, d)
     by (may-not k v w) = absurd (omega (arith, reason-number w))
 
 -- The same of a head.
 pub record Takes (t : Table) (head : Head) (a : ℕ) : Type 0 where
   pub own : a < letterCount t
-  pub more : head .taken < mostTaken
+  pub more : head .taken < longestLog
   pub low : kindIn t a ≡ opening → head .depth < deepest
 
 pub takes : (t : Table) (head : Head) (words : List ℕ) (a : ℕ) → letterVerdict t (stateWith head words) a ≡ 0 → Takes t head a

@@ -14,13 +14,14 @@ use Rattle.vpa.specs.ReaderComputed.{Blocks, ReaderState, ListsPairs}
 use Rattle.vpa.specs.TableOnDisk.{Table, stateCount}
 use Rattle.vpa.proofs.Each.{sorted-same, pair-one-way}
 use Rattle.vpa.proofs.Lists.{sift-intro, sift-elim, square-intro, square-elim, sorted-sift, sorted-square}
+use Rattle.table.specs.Logs.{longestLog}
 use Rattle.table.proofs.All.{both}
 use Rattle.table.proofs.Parts.{length-part, byte-in-part}
 use Rattle.relation.specs.Relations.{Holds, HoldsExactly, IsRelation}
 use Rattle.relation.proofs.Relations.{held-iff-test, holds-inside}
 use Rattle.nesting.specs.Calls.{rows}
 use Rattle.nesting.proofs.ListedRows.{listed-rows}
-use Rattle.reader.specs.Layout.{leading, rowCount, deepest, stateSize, mostTaken, blockPlace, letterIn, rowsIn, pairsIn, blockIn, blocksIn, blockWords, wordOf}
+use Rattle.reader.specs.Layout.{leading, rowCount, deepest, stateSize, blockPlace, letterIn, rowsIn, pairsIn, blockIn, blocksIn, blockWords, wordOf}
 use Rattle.reader.specs.Refusals.{letterWord?, rows?, block?}
 use Rattle.reader.proofs.Numbers.{leading-is, deepest-is, state-size, block-place}
 use Rattle.reader.proofs.Rows.{digits-below, rows-told, rows-tell}
@@ -36,7 +37,7 @@ pub data FitBlocks (t : Table) : Blocks → Type 0 where
   fit-more : {b : ℕ × List Pair} {bs : Blocks} → FitBlock t (length bs) b → FitBlocks t bs → FitBlocks t (b ∷ bs)
 
 pub record Fits (t : Table) (r : ReaderState) : Type 0 where
-  pub taken : r .taken ≤ mostTaken
+  pub taken : r .taken ≤ longestLog
   pub low : length (r .blocks) ≤ suc deepest
   pub blocks : FitBlocks t (r .blocks)
 

@@ -11,7 +11,7 @@ use Rattle.table.specs.Bytes.{part}
 use Rattle.relation.specs.Relations.{holds?, listOf, Holds}
 use Rattle.nesting.specs.Calls.{rows}
 
--- The numbers of the layout: three leading words; a block for each depth to 32, of a letter word and 64 rows. The letters that can be taken.
+-- The numbers of the layout: three leading words; a block for each depth to 32, of a letter word and 64 rows.
 unfoldable pub leading : ℕ
 leading = 3
 
@@ -26,9 +26,6 @@ deepest = 32
 
 unfoldable pub stateSize : ℕ
 stateSize = leading + blockSize * suc deepest
-
-unfoldable pub mostTaken : ℕ
-mostTaken = 16777215
 
 -- Word 0: letters taken. Word 1: the depth. Word 2: 1 if stopped.
 abbrev pub takenIn : List ℕ → ℕ

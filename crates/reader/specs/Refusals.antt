@@ -9,14 +9,15 @@ use Rattle.vpa.specs.Automaton.{opening}
 use Rattle.vpa.specs.ReaderComputed.{ReaderState}
 use Rattle.vpa.specs.TableOnDisk.{Table, stateCount, letterCount, kindIn, isKind?}
 use Rattle.table.specs.Bytes.{all?}
+use Rattle.table.specs.Logs.{longestLog}
 use Rattle.table.specs.Refusals.{rung}
 use Rattle.relation.specs.Relations.{Holds}
-use Rattle.reader.specs.Layout.{rowCount, deepest, stateSize, mostTaken, takenIn, depthIn, stoppedIn, blockPlace, letterIn, rowsIn, depthOf}
+use Rattle.reader.specs.Layout.{rowCount, deepest, stateSize, takenIn, depthIn, stoppedIn, blockPlace, letterIn, rowsIn, depthOf}
 
 -- 14, each reason by itself. One of the first three words is too large. A block's letter does not open in this table, or block 0 has a letter other than 0. Some
 -- pair is not of the table's states. Past the blocks in use something is left.
 pub data Broken (t : Table) (words : List ℕ) : Type 0 where
-  many-taken : mostTaken < takenIn words → Broken t words
+  many-taken : longestLog < takenIn words → Broken t words
   too-deep : deepest < depthIn words → Broken t words
   no-flag : 1 < stoppedIn words → Broken t words
   first-letter : (letterIn words 0 ≡ 0 → ⊥) → Broken t words
@@ -26,7 +27,7 @@ pub data Broken (t : Table) (words : List ℕ) : Type 0 where
 
 -- The same as tests that compute (`legal-iff`).
 unfoldable pub leading? : List ℕ → Bool
-leading? words = leb (takenIn words) mostTaken && leb (depthIn words) deepest && leb (stoppedIn words) 1
+leading? words = leb (takenIn words) longestLog && leb (depthIn words) deepest && leb (stoppedIn words) 1
 
 unfoldable pub letterWord? : Table → ℕ → ℕ → Bool
 letterWord? t zero a = eqb a 0
@@ -51,10 +52,10 @@ unfoldable pub tooDeep? : Table → ReaderState → ℕ → Bool
 tooDeep? t r a = isKind? (kindIn t a) opening && leb deepest (depthOf r)
 
 unfoldable pub letterVerdict : Table → ReaderState → ℕ → ℕ
-letterVerdict t r a = rung (ltb a (letterCount t)) 11 (rung (ltb (r .taken) mostTaken) 12 (rung (not (tooDeep? t r a)) 13 0))
+letterVerdict t r a = rung (ltb a (letterCount t)) 11 (rung (ltb (r .taken) longestLog) 12 (rung (not (tooDeep? t r a)) 13 0))
 
 -- Each of the three by itself. A reason counts only where there is none for a lower number.
 pub data LetterReason (t : Table) (r : ReaderState) (a : ℕ) : ℕ → Type 0 where
   past-letters : letterCount t ≤ a → LetterReason t r a 11
-  log-full : a < letterCount t → mostTaken ≤ r .taken → LetterReason t r a 12
-  open-too-deep : a < letterCount t → r .taken < mostTaken → kindIn t a ≡ opening → deepest ≤ depthOf r → LetterReason t r a 13
+  log-full : a < letterCount t → longestLog ≤ r .taken → LetterReason t r a 12
+  open-too-deep : a < letterCount t → r .taken < longestLog → kindIn t a ≡ opening → deepest ≤ depthOf r → LetterReason t r a 13

@@ -14,6 +14,3 @@ pub const DEEPEST: usize = 32;
 
 // How many words a reader must be lent.
 pub const STATE: usize = LEADING + BLOCK * (DEEPEST + 1);
-
-// How many letters can be taken.
-pub const MOST: usize = 16777215;

@@ -16,13 +16,14 @@ ghost use Rattle.vpa.specs.TableOnDisk.{stateCount, letterCount, kindIn};
 ghost use Rattle.table.specs.Answers.{answered};
 ghost use Rattle.table.specs.Bytes.{all?};
 ghost use Rattle.table.specs.Layout.{movesPart, parse};
+ghost use Rattle.table.specs.Logs.{longestLog};
 ghost use Rattle.table.specs.Refusals.{verdict};
 ghost use Rattle.relation.specs.Relations.{IsRelation, RowsBelow, Joined};
 ghost use Rattle.lengths.specs.Steps.{Chained};
 ghost use Rattle.pair_sets.specs.Steps.{ByLetter};
 ghost use Rattle.reader.specs.Answers.{heardAs};
 ghost use Rattle.reader.specs.Calls.{beginCall, letterCall, letterOn, finishCall};
-ghost use Rattle.reader.specs.Layout.{leading, deepest, stateSize, mostTaken, takenIn, depthIn, stoppedIn, blockPlace, rowsIn, stateIn, inPlace};
+ghost use Rattle.reader.specs.Layout.{leading, deepest, stateSize, takenIn, depthIn, stoppedIn, blockPlace, rowsIn, stateIn, inPlace};
 ghost use Rattle.reader.specs.Refusals.{leading?, letterWord?, rows?, block?, legal?, letterVerdict};
 ghost use Rattle.reader.specs.Steps.{stateWith, Ready, Stepped, Written, headWords, letterRows, OpenedRows, ClosedRows, Extends, Opens, Closes, Settled};
 use table::Checked;
@@ -50,7 +51,7 @@ pub struct Head {
 impl Head {
     // A plain letter is taken.
     fn plain(self) -> Head
-        requires { ⌜ self .taken < mostTaken ⌝ }
+        requires { ⌜ self .taken < longestLog ⌝ }
         ensures { λ r. ⌜ r ≡ record { taken = self .taken + 1; depth = self .depth; stopped = false } ⌝ }
     {
         Head {
@@ -62,7 +63,7 @@ impl Head {
 
     // An open letter is taken.
     fn open(self) -> Head
-        requires { ⌜ (self .taken < mostTaken) × (self .depth < deepest) ⌝ }
+        requires { ⌜ (self .taken < longestLog) × (self .depth < deepest) ⌝ }
         ensures { λ r. ⌜ r ≡ record { taken = self .taken + 1; depth = self .depth + 1; stopped = false } ⌝ }
     {
         Head {
@@ -74,7 +75,7 @@ impl Head {
 
     // A close letter is taken.
     fn close(self) -> Head
-        requires { ⌜ (self .taken < mostTaken) × (0 < self .depth) ⌝ }
+        requires { ⌜ (self .taken < longestLog) × (0 < self .depth) ⌝ }
         ensures { λ r. ⌜ r ≡ record { taken = self .taken + 1; depth = self .depth - 1; stopped = false } ⌝ }
     {
         Head {
@@ -211,7 +212,7 @@ pub fn letter_verdict(table: &[u8], letters: usize, head: Head, letter: usize) -
     if letter >= letters {
         return refusal::LETTER;
     }
-    if head.taken >= layout::MOST {
+    if head.taken >= table::LONGEST_LOG {
         return refusal::LETTERS;
     }
     if head.depth >= layout::DEEPEST {
@@ -249,7 +250,7 @@ pub fn step(
 
 // A plain letter extends the pairs of the top block.
 fn plain(states: usize, moves: &[u64], state: &mut [u64], head: Head, letter: usize) -> Head
-    requires { ⌜ (states ≤ 64) × ((letter < 32) × ((head .depth ≤ deepest) × (head .taken < mostTaken))) ⌝ }
+    requires { ⌜ (states ≤ 64) × ((letter < 32) × ((head .depth ≤ deepest) × (head .taken < longestLog))) ⌝ }
     requires { ⌜ (stateSize ≤ length (now state)) × (RowsBelow states (rowsIn (now state) (head .depth)) × (length (now moves) ≡ 2048)) ⌝ }
     ensures { λ r. ⌜ Settled (Joined (rowsIn (now (state .entry)) (head .depth)) (letterRows (now (moves .entry)) letter)) (Extends (head .depth)) head (head .depth) (now (state .entry)) r (now (state .exit)) ⌝ }
 {
@@ -269,7 +270,7 @@ fn plain(states: usize, moves: &[u64], state: &mut [u64], head: Head, letter: us
 
 // A new block on top: each state that the letter leads to from a second half, with itself.
 fn open(states: usize, moves: &[u64], state: &mut [u64], head: Head, letter: usize) -> Head
-    requires { ⌜ (states ≤ 64) × ((letter < 32) × ((head .depth < deepest) × (head .taken < mostTaken))) ⌝ }
+    requires { ⌜ (states ≤ 64) × ((letter < 32) × ((head .depth < deepest) × (head .taken < longestLog))) ⌝ }
     requires { ⌜ (stateSize ≤ length (now state)) × (RowsBelow states (rowsIn (now state) (head .depth)) × (length (now moves) ≡ 2048)) ⌝ }
     ensures { λ r. ⌜ Settled (OpenedRows (rowsIn (now (state .entry)) (head .depth)) (letterRows (now (moves .entry)) letter)) (Opens letter (head .depth)) head (head .depth + 1) (now (state .entry)) r (now (state .exit)) ⌝ }
 {
@@ -296,7 +297,7 @@ fn close(
     letter: usize,
 ) -> Head
     requires { ⌜ (verdict (now table) ≡ 0) × ((states ≡ stateCount (parse (now table))) × Chained (movesPart (now table)) 0 (now from)) ⌝ }
-    requires { ⌜ Ready (parse (now table)) (now state) (head .depth) × ((kindIn (parse (now table)) letter ≡ closing) × (head .taken < mostTaken)) ⌝ }
+    requires { ⌜ Ready (parse (now table)) (now state) (head .depth) × ((kindIn (parse (now table)) letter ≡ closing) × (head .taken < longestLog)) ⌝ }
     ensures { λ r. ⌜ Settled (ClosedRows (parse (now (table .entry))) (now (state .entry)) (head .depth) letter) (Closes (head .depth)) head (head .depth - 1) (now (state .entry)) r (now (state .exit)) ⌝ }
 {
     if head.depth == 0 {
@@ -408,7 +409,7 @@ fn is_leading(state: &[u64]) -> bool
     requires { ⌜ stateSize ≤ length (now state) ⌝ }
     ensures { λ r. ⌜ leading? (now (state .entry)) ≡ r ⌝ }
 {
-    (state[0] <= layout::MOST as u64) & (state[1] <= layout::DEEPEST as u64) & (state[2] <= 1)
+    (state[0] <= table::LONGEST_LOG as u64) & (state[1] <= layout::DEEPEST as u64) & (state[2] <= 1)
 }
 
 // Whether the blocks below a depth are blocks on this table.

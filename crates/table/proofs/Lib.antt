@@ -6,6 +6,7 @@ pub mod Entries
 pub mod Filled
 pub mod Ladder
 pub mod Lent
+pub mod Logs
 pub mod Order
 pub mod Parsing
 pub mod Parts

@@ -39,6 +39,9 @@ impl Table {
     pub const BYTES: usize = KINDS_PLACE + Table::LETTERS + Table::STATES + 4 * Table::MOVES;
 }
 
+// How many letters a log may have, whoever reads it.
+pub const LONGEST_LOG: usize = 16777215;
+
 // Where the numbers of the head stand, and where what follows it begins.
 const LENGTH_FIELD: usize = 0;
 

@@ -10,7 +10,6 @@ use native.Mathlib.Omega.{arith}
 use borrow.Author.Tests.{lt-ltb, le-ltb}
 use lib.ListN.{length}
 use Rattle.vpa.specs.Automaton.{Accepts}
-use Rattle.vpa.specs.ReaderComputed as vpa
 use Rattle.vpa.specs.ReaderComputed.{ReaderState, accepted, beginState, letterState, lettersState, stateAfter, finishHeard}
 use Rattle.vpa.specs.TableOnDisk.{Table, letterCount, automaton, IsTable}
 use Rattle.vpa.proofs.TableReader.{accepted-iff-accepts}
@@ -19,13 +18,14 @@ use Rattle.vpa.proofs.TableMoves.{accepted-letters}
 use Rattle.table.specs.Answers.{refused, answered}
 use Rattle.table.specs.Bytes.{AreBytes}
 use Rattle.table.specs.Layout.{parse}
+use Rattle.table.specs.Logs.{longestLog}
 use Rattle.table.specs.Refusals.{verdict}
 use Rattle.table.proofs.Lent.{Lent, is-no-table, is-short, is-lent, lent, RefusedFor}
 use Rattle.table.proofs.Tables.{good-table}
 use Rattle.reader.specs.declared.Heard.{Heard}
 use Rattle.reader.specs.Answers.{heardAs}
 use Rattle.reader.specs.Calls.{Reply, reply}
-use Rattle.reader.specs.Layout.{stateSize, mostTaken, cleared}
+use Rattle.reader.specs.Layout.{stateSize, cleared}
 use Rattle.reader.specs.Refusals.{letterVerdict, past-letters, log-full, open-too-deep}
 use Rattle.reader.proofs.CallLaws.{state-refused-iff, heard-once}
 use Rattle.reader.proofs.Fitting.{begin-fits, letter-fits}
@@ -35,7 +35,7 @@ use Rattle.whole_log.specs.Calls.{followed, logAnswer, logOn, logCall, R
 use Rattle.whole_log.proofs.Following.{after, stop-followed, end-followed, refused-followed, step-followed, begin-put}
 
 -- A letter is refused with 11 only if it is not the table's, and else with 13: in a log that is not too long no letter is one too many.
-pub refused-number : {t : Table} {r : ReaderState} {log : List ℕ} {k : ℕ} → r .taken + length log ≤ mostTaken → RefusedIn t r log k
+pub refused-number : {t : Table} {r : ReaderState} {log : List ℕ} {k : ℕ} → r .taken + length log ≤ longestLog → RefusedIn t r log k
     → ((k ≡ 11) × ((a : ℕ) × List·Memᴰ a log × (letterCount t ≤ a))) ⊎ (k ≡ 13)
 refused-number low (refused-here {a = a} e (past-letters l)) = inl (refl, (a, List·Memᴰ·head refl, l))
 refused-number low (refused-here e (log-full l g)) = absurd (omega arith)
@@ -100,7 +100,7 @@ module _ (s : List ℕ) (good : verdict s ≡ 0) (words : List ℕ) where
       by (a-letter-refused k h d) = absurd (none k h)
       by (all-read d) = d
 
-    accepted-iff : length log ≤ mostTaken → (logAnswer s log words ≡ refused 13 → ⊥) → (logAnswer s log words ≡ answered accepted) ↔ Accepts (automaton (parse s)) log
+    accepted-iff : length log ≤ longestLog → (logAnswer s log words ≡ refused 13 → ⊥) → (logAnswer s log words ≡ answered accepted) ↔ Accepts (automaton (parse s)) log
     unfolding beginState
     accepted-iff low shallow = by (follows log (beginState (parse s)) (begin-fits (parse s))) where
       fit : IsTable (parse s)
@@ -121,23 +121,23 @@ module _ (s : List ℕ) (good : verdict s ≡ 0) (words : List ℕ) where
 pub data Checks (s log words : List ℕ) : Type 0 where
   log-no-table : (verdict s ≡ 0 → ⊥) → logCall s log words ≡ reply (refused (verdict s)) words → Checks s log words
   log-few-words : verdict s ≡ 0 → length words < stateSize → logCall s log words ≡ reply (refused 7) words → Checks s log words
-  log-too-long : verdict s ≡ 0 → stateSize ≤ length words → mostTaken < length log → logCall s log words ≡ reply (refused 12) words → Checks s log words
-  log-answers : verdict s ≡ 0 → stateSize ≤ length words → length log ≤ mostTaken → logCall s log words ≡ reply (logAnswer s log words) (cleared words) → Checks s log words
+  log-too-long : verdict s ≡ 0 → stateSize ≤ length words → longestLog < length log → logCall s log words ≡ reply (refused 12) words → Checks s log words
+  log-answers : verdict s ≡ 0 → stateSize ≤ length words → length log ≤ longestLog → logCall s log words ≡ reply (logAnswer s log words) (cleared words) → Checks s log words
 
 pub log-does : (s log words : List ℕ) → Checks s log words
-log-does s log words = by (lent stateSize s words (logOn s log words) (λ k. reply (refused k) words)) (decLt mostTaken (length log)) where
-  by : Lent stateSize s words (logOn s log words) (λ k. reply (refused k) words) → Dec (mostTaken < length log) → Checks s log words
+log-does s log words = by (lent stateSize s words (logOn s log words) (λ k. reply (refused k) words)) (decLt longestLog (length log)) where
+  by : Lent stateSize s words (logOn s log words) (λ k. reply (refused k) words) → Dec (longestLog < length log) → Checks s log words
   by (is-no-table n e) d = log-no-table n e
   by (is-short z l e) d = log-few-words z l e
   by (is-lent z l e) (yes g) = log-too-long z l g (e ∙ rw (lt-ltb _ _ g))
-  by (is-lent z l e) (no g) = let low : length log ≤ mostTaken = omega arith in log-answers z l low (e ∙ rw (le-ltb _ _ low))
+  by (is-lent z l e) (no g) = let low : length log ≤ longestLog = omega arith in log-answers z l low (e ∙ rw (le-ltb _ _ low))
 
 -- The numbers that refuse: those for the bytes and the words, then 12 for the log itself, then those for its letters; and no other.
 pub log-refused-iff : (s log words : List ℕ) → AreBytes s → (k : ℕ)
     → (logCall s log words .answer ≡ refused k)
     ↔ (RefusedFor stateSize s words k
     ⊎ ((verdict s ≡ 0) × (stateSize ≤ length words)
-    × (((k ≡ 12) × (mostTaken < length log)) ⊎ ((length log ≤ mostTaken) × RefusedIn (parse s) (beginState (parse s)) log k))))
+    × (((k ≡ 12) × (longestLog < length log)) ⊎ ((length log ≤ longestLog) × RefusedIn (parse s) (beginState (parse s)) log k))))
 log-refused-iff s log words bytes k =
     let reasons = state-refused-iff s words (logOn s log words) bytes k in (
       λ e. ⊎-elim inl (λ w. inr (w .0, w .1, on-log (w .0) (w .1) .0 (w .2))) (reasons .0 e),
@@ -145,22 +145,22 @@ log-refused-iff s log words bytes k =
     )
   where
     Letters : Type 0
-    Letters = ((k ≡ 12) × (mostTaken < length log)) ⊎ ((length log ≤ mostTaken) × RefusedIn (parse s) (beginState (parse s)) log k)
+    Letters = ((k ≡ 12) × (longestLog < length log)) ⊎ ((length log ≤ longestLog) × RefusedIn (parse s) (beginState (parse s)) log k)
 
     on-log : verdict s ≡ 0 → stateSize ≤ length words → (logOn s log words .answer ≡ refused k) ↔ Letters
-    on-log z l = by (decLt mostTaken (length log)) where
-      by : Dec (mostTaken < length log) → (logOn s log words .answer ≡ refused k) ↔ Letters
+    on-log z l = by (decLt longestLog (length log)) where
+      by : Dec (longestLog < length log) → (logOn s log words .answer ≡ refused k) ↔ Letters
       by (yes g) =
           let d : logOn s log words .answer ≡ refused 12 = rw (lt-ltb _ _ g) in
           (λ e. let same : k ≡ 12 = cc in inl (same, g), ⊎-elim (λ w. d ∙ ap refused (sym (w .0))) (λ w. absurd (omega arith)))
       by (no g) =
-          let low : length log ≤ mostTaken = omega arith in
+          let low : length log ≤ longestLog = omega arith in
           let d : logOn s log words .answer ≡ logAnswer s log words = rw (le-ltb _ _ low) in
           let i = log-letter-refused-iff s z words log l k in
           (λ e. inr (low, i .0 (sym d ∙ e)), ⊎-elim (λ w. absurd (omega arith)) (λ w. d ∙ i .1 (w .1)))
 
 -- Unless 13 is given, the answer is Accepted exactly if the table accepts the log; and Accepted is never answered of another.
-module _ (s log words : List ℕ) (good : verdict s ≡ 0) (long : stateSize ≤ length words) (low : length log ≤ mostTaken) where
+module _ (s log words : List ℕ) (good : verdict s ≡ 0) (long : stateSize ≤ length words) (low : length log ≤ longestLog) where
   answers : logCall s log words .answer ≡ logAnswer s log words
   answers = by (log-does s log words) where
     by : Checks s log words → logCall s log words .answer ≡ logAnswer s log words

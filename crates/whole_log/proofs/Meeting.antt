@@ -10,21 +10,22 @@ use lib.ListN.{length, take, drop, replicate, take-append-drop, length-replicate
 use lib.Seq.{length-take-le, getD-take, ext-getD}
 use Rattle.vpa.specs.ReaderComputed.{Heard}
 use Rattle.table.specs.Answers.{Answer, refused}
+use Rattle.table.specs.Logs.{longestLog}
 use Rattle.table.specs.Refusals.{verdict}
 use Rattle.relation.proofs.Relations.{zero-row}
 use Rattle.nesting.specs.Scratch.{KeptFrom}
 use Rattle.nesting.proofs.Cleared.{kept-then, kept-drop}
-use Rattle.reader.specs.Layout.{stateSize, mostTaken, cleared}
+use Rattle.reader.specs.Layout.{stateSize, cleared}
 use Rattle.reader.specs.Steps.{Written}
 use Rattle.reader.proofs.Meeting.{Meets, meets, meets-same, meets-lent}
 use Rattle.whole_log.specs.Calls.{logAnswer, logCall}
 
 -- The log is too long, or it is read.
 module _ (s log words : List ℕ) (good : verdict s ≡ 0) (long : stateSize ≤ length words) where
-  pub meets-long : mostTaken < length log → Meets (logCall s log words) (refused 12) words
+  pub meets-long : longestLog < length log → Meets (logCall s log words) (refused 12) words
   meets-long l = meets-lent s words good long (meets (rw (lt-ltb _ _ l)))
 
-  pub meets-read : length log ≤ mostTaken → {answer : Answer Heard} {after : List ℕ} → answer ≡ logAnswer s log words → after ≡ cleared words
+  pub meets-read : length log ≤ longestLog → {answer : Answer Heard} {after : List ℕ} → answer ≡ logAnswer s log words → after ≡ cleared words
       → Meets (logCall s log words) answer after
   meets-read l {answer} {after} e d = meets-lent s words good long (meets-same (rw (le-ltb _ _ l)) (e, d))
 

@@ -9,8 +9,9 @@ use lib.ListN.{length}
 use Rattle.vpa.specs.ReaderComputed.{ReaderState, Heard, going, accepted, unfinished, stopAt, letterState}
 use Rattle.vpa.specs.TableOnDisk.{Table}
 use Rattle.table.specs.Answers.{Answer, refused, answered}
+use Rattle.table.specs.Logs.{longestLog}
 use Rattle.reader.specs.Calls.{Reply, reply, withState, beginCall, letterCall, finishCall}
-use Rattle.reader.specs.Layout.{mostTaken, cleared}
+use Rattle.reader.specs.Layout.{cleared}
 use Rattle.reader.specs.Refusals.{letterVerdict, LetterReason}
 
 -- The reader goes on.
@@ -32,7 +33,7 @@ logAnswer s log words = followed s log (beginCall s words)
 
 -- 12 for the log itself comes before any letter and leaves the words, as 1 to 7 do; after every other answer they are zeros.
 abbrev pub logOn : List ℕ → List ℕ → List ℕ → Reply
-logOn s log words = cond (ltb mostTaken (length log)) (reply (refused 12) words) (reply (logAnswer s log words) (cleared words))
+logOn s log words = cond (ltb longestLog (length log)) (reply (refused 12) words) (reply (logAnswer s log words) (cleared words))
 
 abbrev pub logCall : List ℕ → List ℕ → List ℕ → Reply
 logCall s log words = withState s words (logOn s log words)

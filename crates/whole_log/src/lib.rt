@@ -7,10 +7,11 @@ ghost use lib.ListN.{length};
 ghost use mathlib.Core.Path.{_≡_};
 ghost use Rattle.vpa.specs.TableOnDisk.{stateCount, letterCount};
 ghost use Rattle.table.specs.Layout.{parse};
+ghost use Rattle.table.specs.Logs.{longestLog};
 ghost use Rattle.table.specs.Refusals.{verdict};
 ghost use Rattle.nesting.specs.Scratch.{KeptFrom};
 ghost use Rattle.reader.specs.Answers.{heardAs};
-ghost use Rattle.reader.specs.Layout.{stateSize, mostTaken};
+ghost use Rattle.reader.specs.Layout.{stateSize};
 ghost use Rattle.whole_log.specs.Calls.{logAnswer, logCall};
 use reader::Heard;
 use reader::layout;
@@ -29,7 +30,7 @@ pub fn read_log(table: &[u8], log: &[u8], state: &mut [u64]) -> Heard
             if state.len() < layout::STATE {
                 return Heard::Refused(refusal::LENT);
             }
-            if log.len() > layout::MOST {
+            if log.len() > table::LONGEST_LOG {
                 return Heard::Refused(refusal::LETTERS);
             }
             let answer = read_all(table, counts.states, counts.letters, log, state);
@@ -42,7 +43,7 @@ pub fn read_log(table: &[u8], log: &[u8], state: &mut [u64]) -> Heard
 // Begin, each letter, finish.
 fn read_all(table: &[u8], states: usize, letters: usize, log: &[u8], state: &mut [u64]) -> Heard
     requires { ⌜ (verdict (now table) ≡ 0) × ((states ≡ stateCount (parse (now table))) × (letters ≡ letterCount (parse (now table)))) ⌝ }
-    requires { ⌜ (stateSize ≤ length (now state)) × (length (now log) ≤ mostTaken) ⌝ }
+    requires { ⌜ (stateSize ≤ length (now state)) × (length (now log) ≤ longestLog) ⌝ }
     ensures { λ r. ⌜ heardAs r ≡ logAnswer (now (table .entry)) (now (log .entry)) (now (state .entry)) ⌝ }
     ensures { λ _. ⌜ KeptFrom stateSize (now (state .entry)) (now (state .exit)) ⌝ }
 {

@@ -1,6 +1,7 @@
 use native.Mathlib.Omega.{arith}
+use Rattle.table.proofs.Logs.{longest-log}
 use Rattle.reader.specs.Refusals.{leading?}
-use Rattle.reader.proofs.Numbers.{deepest-is, most-taken, state-size}
+use Rattle.reader.proofs.Numbers.{deepest-is, state-size}
 use Rattle.reader.proofs.is_leading.Statement.{statement}
 use Rattle.reader.proofs.is_leading.Tie as tie
 
@@ -12,4 +13,4 @@ is-leading-spec =
     (λ c. omega (arith, state-size))
     (λ c. omega (arith, state-size))
     (λ c. omega (arith, state-size))
-    (λ c. rw (most-taken, deepest-is)))
+    (λ c. rw (longest-log, deepest-is)))

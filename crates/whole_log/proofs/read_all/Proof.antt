@@ -7,12 +7,12 @@ use mathlib.Core.Logic.{inl}
 use mathlib.Core.Path.{_≡_, refl, sym, _∙_}
 use Rattle.table.specs.Layout.{parse}
 use Rattle.table.specs.Refusals.{verdict}
+use Rattle.table.proofs.Logs.{longest-log}
 use Rattle.nesting.proofs.Cleared.{kept-then}
 use Rattle.nesting.specs.Scratch.{KeptFrom}
 use Rattle.reader.specs.Layout.{stateSize}
 use Rattle.reader.specs.Refusals.{letterVerdict}
 use Rattle.reader.specs.Steps.{stateWith}
-use Rattle.reader.proofs.Numbers.{most-taken}
 use Rattle.whole_log.specs.Calls.{logAnswer}
 use Rattle.whole_log.proofs.Following.{ReadTo, begin-kept, begin-stopped, answers-same, read-none, read-refused, read-stopped, read-more, read-ended, step-kept}
 use Rattle.whole_log.proofs.read_all.Statement.{statement}
@@ -100,7 +100,7 @@ read-all-spec =
           ∙ read-stopped _ (good b) (turn (d .before) .before .loop .inv) (turn (d .before) .loop-test .taken) (taken (d .before)) (d .step .ensures) (c .before .if3 .taken) ∙ same b,
       kept b (later d),
     ))
-    (λ c. omega (arith, turn (c .before .before .before .before) .loop-test .taken, entry (begun (c .before .before .before .before)) .pre .1 .1, most-taken))
+    (λ c. omega (arith, turn (c .before .before .before .before) .loop-test .taken, entry (begun (c .before .before .before .before)) .pre .1 .1, longest-log))
     (λ c. omega (arith, turn (c .before .before .before .before) .loop-test .taken))
     (λ c.
     let d = c .before .before .before in

@@ -6,8 +6,9 @@ use lib.ListN.{length}
 use mathlib.Core.Path.{sym, ap, _∙_}
 use Rattle.table.specs.Answers.{checkedAs}
 use Rattle.table.proofs.CallLaws.{Counted, when-good, when-refused}
+use Rattle.table.proofs.Logs.{longest-log}
 use Rattle.reader.specs.Layout.{stateSize}
-use Rattle.reader.proofs.Numbers.{state-size, most-taken}
+use Rattle.reader.proofs.Numbers.{state-size}
 use Rattle.reader.proofs.Meeting.{meets-no-table, meets-short}
 use Rattle.whole_log.proofs.Meeting.{meets-long, meets-read, clears}
 use Rattle.whole_log.proofs.read_log.Statement.{statement}
@@ -35,10 +36,10 @@ read-log-spec =
     (λ c.
     let d = c .before .before .before in
     let a = entry d .args in
-    meets-long _ (now (a .log)) (now (a .state)) (counted d .good) (omega (arith, state-size)) (omega (arith, most-taken)))
+    meets-long _ (now (a .log)) (now (a .state)) (counted d .good) (omega (arith, state-size)) (omega (arith, longest-log)))
     (λ c κs.
     let w = counted (c .before .before .before .before) in
-    ((w .good, (w .states, w .letters)), (omega (arith, state-size), omega (arith, most-taken))))
+    ((w .good, (w .states, w .letters)), (omega (arith, state-size), omega (arith, longest-log))))
     (λ c κs. (omega arith, omega (arith, c .before .before .before .read-all .ensures .1 .long)))
     (λ c.
     let w = when-refused _ _ (sym (ap checkedAs (c .before .number .given .1)) ∙ c .before .before .before .check .ensures) in
@@ -49,5 +50,5 @@ read-log-spec =
     let d = r .before .before .before .before .before in
     let a = entry d .args in
     let long : stateSize ≤ length (now (a .state)) = omega (arith, state-size) in
-    meets-read _ (now (a .log)) (now (a .state)) (counted d .good) long (omega (arith, most-taken)) (r .read-all .ensures .0)
+    meets-read _ (now (a .log)) (now (a .state)) (counted d .good) long (omega (arith, longest-log)) (r .read-all .ensures .0)
     (clears long (r .read-all .ensures .1) (sym state-size) (c .before .before .clear .ensures))))
