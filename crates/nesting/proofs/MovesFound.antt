@@ -13,6 +13,7 @@ use lib.Dec.{T, eqb}
 use lib.ListN.{length, getD, set, replicate}
 use Rattle.vpa.specs.Automaton.{Kind}
 use Rattle.vpa.specs.TableOnDisk.{Table, entry, letterCount, kindNumbered, kindIn, isKind?}
+use Rattle.vpa.proofs.Lists.{is-true}
 use Rattle.vpa.proofs.TableMoves.{kind-eq, kind-test}
 use Rattle.table.specs.Bytes.{byte}
 use Rattle.table.specs.Calls.{kindAnswer}
@@ -129,10 +130,7 @@ module _ (s : List ℕ) (good : verdict s ≡ 0) where
 
       pub skipped : {b : Bool} → moveOf? s u (4 * k) number γ ≡ b → b ≡ false → (byte u (4 * k + 2) ≡ γ) × (kindIn (parse s) (byte u (4 * k + 1)) ≡ kindNumbered number) → ⊥
       unfolding moveOf?
-      skipped d e (m, i) = subst T (sym (and-true (eq-eqb _ _ m) (kind-here ∙ passed _ (kind-test _ _ i))) ∙ d ∙ e) tt where
-        passed : (b : Bool) → T b → b ≡ true
-        passed true h = refl
-        passed false h = absurd h
+      skipped d e (m, i) = subst T (sym (and-true (eq-eqb _ _ m) (kind-here ∙ is-true _ (kind-test _ _ i))) ∙ d ∙ e) tt
 
     -- The same of a test that asks for the kind alone.
     module _ (k number : ℕ) {b : Bool} (l : k < length u / 4) (d : ofKind? (kindAnswer s (byte u (4 * k + 1))) number ≡ b) where

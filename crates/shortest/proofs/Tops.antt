@@ -14,6 +14,7 @@ use lib.ListN.{length, take, drop, take-append-drop}
 use lib.Seq.{length-take-le}
 use Rattle.vpa.specs.Shortest.{Shortest}
 use Rattle.vpa.specs.TableOnDisk.{Table, stateCount, initial?, final?, automaton, IsTable}
+use Rattle.vpa.proofs.Lists.{is-true}
 use Rattle.vpa.proofs.ShortestLogs.{table-top-none, table-top-over, table-top-least}
 use Rattle.vpa.proofs.TableMoves.{initial-bound, final-bound}
 use Rattle.table.specs.Answers.{refused, answered}
@@ -33,10 +34,6 @@ holds e = subst T (sym e) tt
 
 fails : {b : Bool} → b ≡ false → T b → ⊥
 fails e h = subst T e h
-
-is-true : (b : Bool) → T b → b ≡ true
-is-true true h = refl
-is-true false h = absurd h
 
 module _ {t : Table} {s : List ℕ} where
   pub lesser-none : (i : ℕ) (best : Top) → LesserTop t s 0 i best best

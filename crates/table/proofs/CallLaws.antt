@@ -1,16 +1,16 @@
 -- What the calls' answers come to, in the words of document 01; and that the contracts leave nothing open.
-use Prim.Native.Nat.{ℕ, _+_, _*_, _/_, _<_, _≤_}
+use Prim.Native.Nat.{ℕ, zero, suc, _+_, _*_, _/_, _<_, _≤_}
 use mathlib.Core.Bool.{Bool, true, false, cond}
-use mathlib.Core.List.{List, [], _++_}
+use mathlib.Core.List.{List, [], _∷_, _++_}
 use mathlib.Core.Logic.{_↔_}
 use mathlib.Core.Option.{Option, none, some}
 use mathlib.Core.Path.{_≡_, refl, sym, ap, subst, _∙_}
 use native.Mathlib.Omega.{arith}
 use lib.Dec.{eqb, ltb}
-use lib.ListN.{length, drop, getElem?}
+use lib.ListN.{length, drop, getD, getElem?}
 use borrow.Author.Tests.{eq-eqb, ne-eqb, eqb-true, eqb-false, ltb-true, ltb-false, lt-ltb, le-ltb}
 use Rattle.vpa.specs.Automaton.{Kind, plain, opening, closing}
-use Rattle.vpa.specs.TableOnDisk.{Entry, entry, stateCount, letterCount, kindIn}
+use Rattle.vpa.specs.TableOnDisk.{Entry, entry, stateCount, letterCount, kindNumbered, kindIn}
 use Rattle.table.specs.declared.Table as declared
 use Rattle.table.specs.declared.Checked.{Checked}
 use Rattle.table.specs.declared.Checked.the-variants as checked
@@ -177,9 +177,24 @@ pub kind-none : (s : List ℕ) (a : ℕ) → letterCount (parse s) ≤ a → kin
 unfolding kindOf
 kind-none s a l = rw (no-element ((parse s) .kinds) a l)
 
--- A letter of the table is told a kind, and its own.
-pub told-kind : (s : List ℕ) {a : ℕ} {kind : Kind} → a < letterCount (parse s) → some kind ≡ kindAnswer s a → kindIn (parse s) a ≡ kind
-told-kind s {a} {kind} l e = let w : some (kindIn (parse s) a) ≡ some kind = sym (e ∙ kind-there s a l) in cc
+-- A kind that is told is the letter's own, and where none is told the letter counts as plain. Of a letter of the table one is told.
+plainOr : Option Kind → Kind
+plainOr none = plain
+plainOr (some kind) = kind
+
+listed : (l : List ℕ) (a : ℕ) → kindNumbered (getD l a 0) ≡ plainOr (kindOf (getElem? l a))
+unfolding kindNumbered kindOf plainOr
+listed [] a = refl
+listed (k ∷ l) zero = refl
+listed (k ∷ l) (suc a) = listed l a
+
+pub told-kind : (s : List ℕ) (a : ℕ) {kind : Kind} → some kind ≡ kindAnswer s a → kindIn (parse s) a ≡ kind
+unfolding kindIn plainOr
+told-kind s a e = listed ((parse s) .kinds) a ∙ ap plainOr (sym e)
+
+pub told-plain : (s : List ℕ) (a : ℕ) → none ≡ kindAnswer s a → kindIn (parse s) a ≡ plain
+unfolding kindIn plainOr
+told-plain s a e = listed ((parse s) .kinds) a ∙ ap plainOr (sym e)
 
 pub told-none : (s : List ℕ) {a : ℕ} → a < letterCount (parse s) → none ≡ kindAnswer s a → ⊥
 told-none s {a} l e = let w : none ≡ some (kindIn (parse s) a) = e ∙ kind-there s a l in let z : _≡_ {A = ℕ} 0 1 = cc in omega arith

@@ -25,6 +25,10 @@ and-l a b h = both a b h .0
 pub and-r : (a b : Bool) → T (a && b) → T b
 and-r a b h = both a b h .1
 
+pub is-true : (b : Bool) → T b → b ≡ true
+is-true true h = refl
+is-true false h = absurd h
+
 pub either : (a b : Bool) → T (a || b) → T a ⊎ T b
 either true b h = inl tt
 either false b h = inr h
@@ -51,6 +55,14 @@ any-elim f (y ∷ ys) h = go (either (f y) (any? f ys) h) (any-elim f ys)
     go : T (f y) ⊎ T (any? f ys) → (T (any? f ys) → (x : _) × List·Memᴰ x ys × T (f x)) → (x : _) × List·Memᴰ x (y ∷ ys) × T (f x)
     go (inl k) r = (y, List·Memᴰ·head refl, k)
     go (inr k) r = let t = r k in (t .0, List·Memᴰ·tail (t .1), t .2)
+
+pub any-append : {X : Type 0} (f : X → Bool) (xs ys : List X) → any? f (xs ++ ys) ≡ (any? f xs || any? f ys)
+unfolding any?
+any-append f [] ys = refl
+any-append f (x ∷ xs) ys = by (f x) (any-append f xs ys) where
+  by : (b : Bool) → any? f (xs ++ ys) ≡ (any? f xs || any? f ys) → (b || any? f (xs ++ ys)) ≡ ((b || any? f xs) || any? f ys)
+  by true e = refl
+  by false e = e
 
 -- The elements that pass.
 pub sift-intro : {X : Type 0} (f : X → Bool) {x : X} {xs : List X} → List·Memᴰ x xs → T (f x) → List·Memᴰ x (sift f xs)

@@ -30,7 +30,7 @@ small : (c : tie.Start) → stateCount (parse (now (c .args .table))) ≤ 64
 small c = good-storable _ (c .pre .0 .0) .states
 
 told : (c : tie.After-kind-at) {kind : Kind} → some kind ≡ kindAs (c .kind-at .result) → kindIn (parse (now (begin c .args .table))) (begin c .args .letter) ≡ kind
-told c e = told-kind _ (taken (begin c) .own) (e ∙ c .kind-at .ensures)
+told c e = told-kind _ _ (e ∙ c .kind-at .ensures)
 
 opens : (c : tie.After-enum-told2) → kindIn (parse (now (begin (c .before .before) .args .table))) (begin (c .before .before) .args .letter) ≡ opening
 opens c = told (c .before .before) (sym (ap kindAs (c .enum-told2 .given .1)))

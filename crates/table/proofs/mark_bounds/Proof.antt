@@ -11,7 +11,7 @@ use Rattle.table.proofs.mark_bounds.Statement.{statement}
 use Rattle.table.proofs.mark_bounds.Tie as tie
 
 abbrev Inv-loop : tie.InvT-loop
-Inv-loop table marks letters bounds₀ a₀ bounds a = (a ≤ letters) × Filled (λ i. cond (eqb (kindByte table i) 0) 1 marks) 256 a bounds
+Inv-loop table marks letters bounds₀ a₀ bounds a = (a ≤ letters) × Filled (λ i. cond (eqb (kindByte table i) 0) 1 marks) 0 256 a bounds
 
 abbrev μ-loop : tie.MeasureT-loop
 μ-loop table marks letters bounds₀ a₀ bounds a = letters - a
@@ -24,9 +24,9 @@ mark-bounds-spec =
     Inv-loop
     μ-loop
     (λ c κs. tt) (λ c κs. tt)
-    (λ c. (omega arith, filled-none _ 256))
+    (λ c. (omega arith, filled-none _ 0 256))
     (λ c. omega arith) (λ c. omega arith) (λ c κs. tt) (λ c. omega arith) (λ c. omega arith) (λ c. omega arith)
-    (λ c. (omega arith, filled-more _ _ (omega arith) (c .before .before .before .loop .inv .1) (c .mark-bound .ensures)))
+    (λ c. (omega arith, filled-more _ 0 _ (omega arith) (c .before .before .before .loop .inv .1) (c .mark-bound .ensures)))
     (λ c i.
     let l = c .before .loop in
     let e : l .a ≡ lettersField (now (c .before .before .before .before .before .args .table)) = omega arith in

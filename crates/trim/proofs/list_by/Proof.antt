@@ -34,7 +34,7 @@ list-by-spec =
     let k = d .before .before in
     let p = k .before .before .before .before .pre in
     appended-same
-    (plain-rows (p .1 .0 .0) (p .1 .0 .1) (p .1 .1) (good-table _ (p .0 .0)) (told-kind _ (p .0 .1 .0) (sym (ap kindAs (d .enum-told .given .1)) ∙ k .kind-at .ensures))
+    (plain-rows (p .1 .0 .0) (p .1 .0 .1) (p .1 .1) (good-table _ (p .0 .0)) (told-kind _ _ (sym (ap kindAs (d .enum-told .given .1)) ∙ k .kind-at .ensures))
     _ (c .before .before .before .before .targets .ensures))
     (c .before .before .append .ensures))
     (λ c. omega arith)
@@ -43,7 +43,7 @@ list-by-spec =
     let k = d .before .before in
     let p = k .before .before .before .before .pre in
     appended-same
-    (open-rows (p .1 .0 .0) (p .1 .0 .1) (p .1 .1) (told-kind _ (p .0 .1 .0) (sym (ap kindAs (d .enum-told2 .given .1)) ∙ k .kind-at .ensures)))
+    (open-rows (p .1 .0 .0) (p .1 .0 .1) (p .1 .1) (told-kind _ _ (sym (ap kindAs (d .enum-told2 .given .1)) ∙ k .kind-at .ensures)))
     (c .before .before .list-marked .ensures))
     (λ c. omega arith)
     (λ c.
@@ -51,7 +51,7 @@ list-by-spec =
     let k = d .before .before in
     let p = k .before .before .before .before .pre in
     appended-same
-    (close-rows (p .1 .0 .0) (p .1 .0 .1) (p .1 .1) (told-kind _ (p .0 .1 .0) (sym (ap kindAs (d .enum-told3 .given .1)) ∙ k .kind-at .ensures)))
+    (close-rows (p .1 .0 .0) (p .1 .0 .1) (p .1 .1) (told-kind _ _ (sym (ap kindAs (d .enum-told3 .given .1)) ∙ k .kind-at .ensures)))
     (c .before .before .list-marked2 .ensures))
     (λ c.
     let k = c .before .before in
