@@ -16,3 +16,4 @@ pub mod ReaderStates
 pub mod Lengths
 pub mod Each
 pub mod ShortestLogs
+pub mod Balances

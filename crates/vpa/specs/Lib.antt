@@ -6,5 +6,6 @@ pub mod PairsComputed
 pub mod TrimComputed
 pub mod Reader
 pub mod ReaderComputed
+pub mod Balance
 pub mod Shortest
 pub mod WorkedTable
