@@ -15,6 +15,18 @@ pub fn next_number(n: usize) {
     number(n);
 }
 
+// A number after a space, with its sign where it is below 0.
+pub fn next_signed(n: i32) {
+    // Wider, so that the least number can be turned round too.
+    let wide = n as i64;
+    if wide < 0 {
+        text(b" -");
+        number((0 - wide) as usize);
+    } else {
+        next_number(wide as usize);
+    }
+}
+
 // A number after a space for each byte.
 pub fn next_numbers(bytes: &[u8]) {
     for i in 0..bytes.len() {

@@ -1,4 +1,5 @@
 // Cases of what each library must answer, one line for each. The file `stdout` has the lines that must come.
+mod balance_cases;
 mod lent;
 mod lines;
 mod log_cases;
@@ -17,4 +18,5 @@ fn main() {
     shortest_cases::run();
     reader_cases::run();
     log_cases::run();
+    balance_cases::run();
 }
