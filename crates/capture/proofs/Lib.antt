@@ -1,0 +1,4 @@
+pub mod CallLaws
+pub mod Exported
+pub mod Values
+pub mod Words

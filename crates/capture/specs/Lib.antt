@@ -1,0 +1,4 @@
+pub mod Calls
+pub mod Numbers
+pub mod State
+pub mod Steps
