@@ -22,6 +22,7 @@ pub fn run() {
     whole_tables();
     marks();
     chain();
+    ring();
 }
 
 fn sizes_of_scratch() {
@@ -86,6 +87,20 @@ fn chain() {
     lines::end();
 }
 
+// As many pairs and levels as there can be.
+fn ring() {
+    lines::label(b"nesting of a ring of 64 states");
+    let table = tables::ring();
+    let answer = nesting::pairs_and_levels(tables::whole(&table), &mut [UNTOUCHED; 16384]);
+    let found = answer.found;
+    show_found(found);
+    let pairs = answer.pairs;
+    show_full(pairs, b", every pair");
+    let levels = answer.levels;
+    show_full(levels, b", every level");
+    lines::end();
+}
+
 fn show(label: &[u8], table: &[u8]) {
     lines::label(label);
     show_answer(nesting::pairs_and_levels(table, &mut [UNTOUCHED; 16384]));
@@ -134,6 +149,17 @@ pub fn show_rows(rows: [u64; 64], none: &[u8]) {
     }
     if all == 0 {
         lines::text(none);
+    }
+}
+
+// The words, where every row is full.
+fn show_full(rows: [u64; 64], words: &[u8]) {
+    let mut full = true;
+    for j in 0..64 {
+        full = full & (rows[j] == FULL_ROW);
+    }
+    if full {
+        lines::text(words);
     }
 }
 

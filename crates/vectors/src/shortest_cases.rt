@@ -94,9 +94,10 @@ fn no_log() {
         &tables::worked_with(FINAL_PLACE, 0),
     );
     show(b"shortest from the final to the initial state", &BACKWARD);
-    show_into(
+    show_lent(
         b"shortest from the final to the initial state into 0 bytes",
         &BACKWARD,
+        &mut [UNTOUCHED; 16385],
         &mut [UNWRITTEN; 0],
     );
 }
@@ -178,9 +179,10 @@ fn most_letters() {
 fn too_many_letters() {
     let table = tables::doubling(10, 5);
     show(b"shortest of 4097 letters", tables::whole(&table));
-    show_into(
+    show_lent(
         b"shortest of 4097 letters into 0 bytes",
         tables::whole(&table),
+        &mut [UNTOUCHED; 16385],
         &mut [UNWRITTEN; 0],
     );
     show(

@@ -81,6 +81,7 @@ fn long_slices() {
 }
 
 fn versions() {
+    show(b"version 0 in eight bytes", &[0, 6, 0, 0, 0, 0, 0, 0]);
     show(b"version 0", &tables::worked_with(VERSION_PLACE, 0));
     let mut second = tables::worked_with(VERSION_PLACE, 2);
     show(b"version 2", &second);

@@ -378,6 +378,18 @@ pub fn chain() -> [u8; LARGEST_AND_ONE] {
     table
 }
 
+// The chain with a move from its last state to its first, and every state initial and final.
+pub fn ring() -> [u8; LARGEST_AND_ONE] {
+    let mut table = chain();
+    table[1] = 0x47;
+    table[7] = 64;
+    put(&mut table, 63, [63, 0, 0, 0]);
+    for state in 0..64 {
+        put_state(&mut table, 1, state, 3);
+    }
+    table
+}
+
 // How many bytes the next table has: 32 letters, 64 states, 2 moves.
 pub const LAST_BYTES: usize = 112;
 
