@@ -1,6 +1,8 @@
 // The balance of a log: opens less closes, and the lowest that it is on the way.
 //
 // `balance` is the call.
+#![tactic(auto)]
+
 ghost use Rattle.std.specs.Prelude.{ℕ, ◌<◌, ◌≤◌, pos, ◌+ℤ◌, length, get_or, ◌≡◌};
 ghost use Rattle.std.specs.Int.{w32};
 ghost use Rattle.std.proofs.Common.{SFits};

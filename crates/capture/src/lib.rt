@@ -1,6 +1,8 @@
 // The calls as a capture program links them; `include/nomyugereka.h` declares them. Each is a library's call: tables, logs and outputs are bytes, scratch and the
 // balance are numbers, a reader's state is lent as bytes and its words are copied out and back, and the answer is one number (specs/Numbers). None asks anything of
 // its caller but what every slice and reference has: memory that is there, is as long as said, and is lent to nobody else meanwhile.
+#![tactic(auto)]
+
 ghost use Rattle.std.specs.Prelude.{◌≡◌};
 ghost use Rattle.table.specs.Calls.{check_answer, write_answer, write_out};
 ghost use Rattle.trim.specs.Calls.{trim_call};

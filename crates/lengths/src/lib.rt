@@ -5,6 +5,8 @@
 // a matter of cost alone; what is found does not depend on it, since a pair that is lowered later would be due again.
 //
 // Moves are found by `chain`, which leads from a move to the next one with the same from, or the same to.
+#![tactic(auto)]
+
 ghost use Rattle.std.specs.Prelude.{ℕ, ◌+◌, ◌*◌, ◌/◌, ◌<◌, ◌≤◌, length, get_or, ◌⊎◌, ◌≡◌};
 ghost use Rattle.vpa.specs.TableOnDisk.{state_count};
 ghost use Rattle.table.specs.Layout.{moves_part, parse};

@@ -4,6 +4,8 @@
 // The first three ask for a table that was checked, and for its counts, its pairs or the number of a kind; the next two for the number of a kind,
 // `is_move_of` also for a place inside the moves; `initial_digit` for a state below 64; `clear` for enough scratch.
 // In what order the first two search is known to nothing but the functions that they call.
+#![tactic(auto)]
+
 ghost use Rattle.std.specs.Prelude.{ℕ, ◌+◌, ◌<◌, ◌≤◌, T, length, replicate, ◌↔◌, ◌≡◌};
 ghost use Rattle.vpa.specs.PairsComputed.{pairs, levels};
 ghost use Rattle.vpa.specs.TableOnDisk.{state_count, kind_numbered, initial?, final?};
@@ -31,13 +33,13 @@ pub const OPEN: u8 = 1;
 pub const CLOSE: u8 = 2;
 
 // How many balanced pairs and live levels there are.
-#[derive(Drop)]
+#[derive(Clone, Copy)]
 pub struct Sizes {
     pub pairs: usize,
     pub levels: usize,
 }
 
-#[derive(Drop)]
+#[derive(Clone, Copy)]
 pub enum Found {
     Refused(u8),
     Sizes(Sizes),

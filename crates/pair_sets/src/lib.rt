@@ -5,6 +5,8 @@
 // the end. All ask for a table that was checked.
 //
 // The moves of one state are found by a chain of the crate `lengths`.
+#![tactic(auto)]
+
 ghost use Rattle.std.specs.Prelude.{◌<◌, ◌≤◌, T, length, ◌↔◌, ◌≡◌};
 ghost use Rattle.vpa.specs.Automaton.{opening, closing};
 ghost use Rattle.vpa.specs.Reader.{Started, Joined, FinishedBlock};

@@ -4,6 +4,8 @@
 // `whole_log`, which checks once: they ask for what the checks tell. `clear` and `Head::heard` serve it too.
 //
 // Between calls the state is words. Inside, the three leading ones are a `Head`, which each step takes and hands back, and the blocks stay where they are lent.
+#![tactic(auto)]
+
 ghost use Rattle.std.specs.Prelude.{ℕ, suc, ◌+◌, ◌-◌, ◌^◌, ◌<◌, ◌≤◌, eqb, ltb, length, get_or, true, false, cond, List, ◌≡◌};
 ghost use Rattle.vpa.specs.Automaton.{closing};
 ghost use Rattle.vpa.specs.ReaderComputed.{going, stop_at, begin_state, finish_heard};
@@ -37,7 +39,7 @@ pub enum Heard {
 }
 
 // The leading words: letters taken, depth, whether stopped.
-#[derive(Drop)]
+#[derive(Clone, Copy)]
 pub struct Head {
     pub taken: usize,
     pub depth: usize,

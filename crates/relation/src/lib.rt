@@ -2,6 +2,8 @@
 //
 // Whatever makes a relation takes those it is made of by value and hands back a new array. A copy has 512 bytes: what looks at one row or one pair
 // borrows the array, and `put` is not for loops. Rows that stand in memory that was lent are read there: `joined_row`, `join_lent` and `together`.
+#![tactic(auto)]
+
 ghost use Rattle.std.specs.Prelude.{ℕ, ◌<◌, ◌≤◌, length, ◌≡◌};
 ghost use Rattle.relation.specs.Relations.{Holds, holds?, HoldsExactly, IsRelation, RowsBelow, NoPair, Identity, Diagonal, With, Joined, Either, Both, Turned, DigitsExactly, InSome, SecondHalf, TellsNone, size_of};
 ghost use Rattle.relation.specs.Rows.{Reached, Spread};

@@ -1,4 +1,6 @@
 // Reads a table on standard input and prints what the libraries say of it, a line for each answer. Bytes that are no table get one line, the refusal.
+#![tactic(auto)]
+
 mod lines;
 
 use libc::STDIN_FILENO;

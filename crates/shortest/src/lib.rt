@@ -3,6 +3,8 @@
 // `shortest` is the call. It finds the least lengths of the balanced pairs, takes the least one from an initial to a final state, and writes a log of that
 // length, one letter a turn. How a length came about is not noted: the parts of a shortest way are shortest themselves, so the next move is found where
 // lengths add up.
+#![tactic(auto)]
+
 ghost use Rattle.std.specs.Prelude.{◌+◌, ◌*◌, ◌-◌, ◌/◌, ◌<◌, ◌≤◌, length, get_or, set, ◌≡◌};
 ghost use Rattle.vpa.specs.TableOnDisk.{state_count};
 ghost use Rattle.table.specs.Layout.{moves_part, parse};
@@ -16,7 +18,7 @@ ghost use Rattle.shortest.specs.Steps.{LeastTop, LesserTop, Writing, WroteLetter
 
 use table::{Checked, refusal};
 
-#[derive(Drop)]
+#[derive(Clone, Copy)]
 pub enum Shown {
     Refused(u8),
     NoLog,
@@ -24,7 +26,7 @@ pub enum Shown {
 }
 
 // A pair from an initial to a final state, and its length; no pair where the length is past OVER.
-#[derive(Drop)]
+#[derive(Clone, Copy)]
 struct Top {
     first: usize,
     last: usize,

@@ -2,6 +2,8 @@
 //
 // `check`, `moves`, `move_at` and `write` are the calls. `verdict`, `checked_moves`, `kind_at`, `is_initial` and `is_final` serve the crates
 // above; of them only `checked_moves` asks for bytes that were checked.
+#![tactic(auto)]
+
 ghost use Rattle.std.specs.Prelude.{ℕ, ◌+◌, ◌*◌, ◌-◌, ◌<◌, ◌≤◌, eqb, length, drop, get_or, cond, ◌++◌, ◌≡◌};
 ghost use Rattle.std.proofs.Math.Option.{some};
 ghost use Rattle.vpa.specs.TableOnDisk.{kind_numbered, initial?, final?};
@@ -62,7 +64,7 @@ pub enum Checked {
     Good(Table),
 }
 
-#[derive(Drop)]
+#[derive(Clone, Copy)]
 pub struct Move {
     pub from: u8,
     pub letter: u8,

@@ -2,6 +2,8 @@
 //
 // `trim` is the call. It finds the balanced pairs and the live levels, lists the trimmed states, then the trimmed marks, then the trimmed moves, each list
 // in its order as rows of four numbers at the front of scratch, and writes only once it is known that they are few enough and that the output has room.
+#![tactic(auto)]
+
 ghost use Rattle.std.specs.Prelude.{ℕ, ◌+◌, ◌*◌, ◌/◌, ◌<◌, ◌≤◌, T, length, get_or, take, cond, ◌↔◌, ◌≡◌};
 ghost use Rattle.vpa.specs.PairsComputed.{pairs, levels};
 ghost use Rattle.vpa.specs.TableOnDisk.{letter_count};
@@ -22,14 +24,14 @@ ghost use Rattle.trim.specs.Steps.{IsFrom, moves_by, moves_from, Rising, Cut, Bl
 use table::{Checked, KindAt, Table, refusal};
 use triples::{Plan, Trios, Ways};
 
-#[derive(Drop)]
+#[derive(Clone, Copy)]
 pub enum Trimmed {
     Refused(u8),
     Bytes(usize),
 }
 
 // What the moves of one trimmed state are listed by.
-#[derive(Drop)]
+#[derive(Clone, Copy)]
 struct From {
     number: usize,
     state: usize,

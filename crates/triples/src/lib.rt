@@ -6,6 +6,8 @@
 //
 // None of them is a call. They ask for what the trimmer knows: enough scratch; a checked table with its pairs and levels (`list_marks`); at most 64 rows
 // (`read_back`); numbers below 64 (`plan_of`); at most 1,024 rows, of 16-bit numbers (`append`).
+#![tactic(auto)]
+
 ghost use Rattle.std.specs.Prelude.{ℕ, ◌+◌, ◌*◌, ◌<◌, ◌≤◌, length, get_or, ◌≡◌};
 ghost use Rattle.std.specs.Int.Bits.{bit_and};
 ghost use Rattle.vpa.specs.Lists.{each, below};
@@ -22,7 +24,7 @@ ghost use Rattle.triples.specs.Steps.{Column, state_rows, InBy, OutBy, marks_of,
 use table::Table;
 
 // Trimmed states (o, q, p) or trimmed marks (γ, o, q), by number.
-#[derive(Drop)]
+#[derive(Clone, Copy)]
 pub struct Trios {
     pub count: usize,
     pub first: [usize; 64],

@@ -1,4 +1,6 @@
 // Cases of what each library must answer, one line for each. The file `stdout` has the lines that must come.
+#![tactic(auto)]
+
 mod balance_cases;
 mod lent;
 mod lines;

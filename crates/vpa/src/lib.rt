@@ -1,1 +1,2 @@
 // The theory: definitions in specs/, laws in proofs/, and no function.
+#![tactic(auto)]

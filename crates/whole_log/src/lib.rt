@@ -2,6 +2,8 @@
 //
 // `read_log` is the call. The reader's own calls check their table and their words each time; here both are checked once, and what a table's letters do is found
 // once for all of them.
+#![tactic(auto)]
+
 ghost use Rattle.std.specs.Prelude.{◌≤◌, length, ◌≡◌};
 ghost use Rattle.vpa.specs.TableOnDisk.{state_count, letter_count};
 ghost use Rattle.table.specs.Layout.{parse};

@@ -11,8 +11,8 @@ use Rattle.balance.proofs.change.Statement.{statement}
 use Rattle.balance.proofs.change.Tie as tie
 
 -- The kind that was told, as what is answered.
-told : (c : tie.After-kind-at) {kind : Kind} → some kind ≡ kind_as c.kind_at.result
-    → change kind ≡ change (kind_in (parse c.before.before.args.table.now) c.before.before.args.letter)
+told : (c : tie.After-kind_at) {kind : Kind} → some kind ≡ kind_as c.kind_at.result
+    → change kind ≡ change (kind_in (parse c.args.table.now) c.args.letter)
 told c e = sym (ap change (told_kind _ _ (e ∙ c.kind_at.ensures)))
 
 pub change_spec : {M : Type 1} → statement M
@@ -21,7 +21,7 @@ change_spec =
     tie.close
     (tie.spec
     (λ c κs. tt) (λ c. search rules) (λ c. search rules) (λ c. search rules) (λ c. search rules)
-    (λ c. told c.before.before (sym (ap kind_as c.enum_told.given.1)))
-    (λ c. told c.before.before (sym (ap kind_as c.enum-told2.given.1)))
-    (λ c. told c.before.before (sym (ap kind_as c.enum-told3.given.1)))
-    (λ c. sym (ap change (told_plain _ _ (sym (ap kind_as c.enum-told4.given.1) ∙ c.before.before.kind_at.ensures)))))
+    (λ c. told c.before.before (sym (ap kind_as c.enum_told-1.given.1)))
+    (λ c. told c.before.before (sym (ap kind_as c.enum_told-in-Open-1.given.1)))
+    (λ c. told c.before.before (sym (ap kind_as c.enum_told-in-Close-1.given.1)))
+    (λ c. sym (ap change (told_plain _ _ (sym (ap kind_as c.enum_told-in-NoLetter-1.given.1) ∙ c.kind_at.ensures)))))

@@ -17,15 +17,15 @@ nomyugereka_balance_spec =
     (λ c κs. search rules)
     (λ c. search rules)
     (λ c.
-    let args = c.before.before.before.before.before.before.before.args in
-    let e = sym (ap weighed_as c.before.before.number.given.1) ∙ c.before.before.before.before.balance.ensures in (
+    let args = c.args in
+    let e = sym (ap weighed_as c.number-1.given.1) ∙ c.balance.ensures in (
       c.refused.ensures ∙ ap weighed_number e,
       (ap (λ x. balance_after x args.balance.now) e, ap (λ x. lowest_after x args.lowest.now) e),
     ))
     (λ c.
-    let args = c.before.before.before.before.before.before.before.before.args in
-    let e = sym (ap weighed_as c.before.before.before.tally.given.1) ∙ c.before.before.before.before.before.balance.ensures in
-    let ranges = c.before.struct_told.given in (
+    let args = c.args in
+    let e = sym (ap weighed_as c.tally-1.given.1) ∙ c.balance.ensures in
+    let ranges = c.struct_told-1.given in (
       ap weighed_number e,
       (
         to_z-of_z w32 _ (record { sfits = ranges.0.1 }) ∙ ap (λ x. balance_after x args.balance.now) e,

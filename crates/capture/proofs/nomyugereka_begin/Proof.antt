@@ -16,10 +16,10 @@ nomyugereka_begin_spec =
     (tie.spec
     (λ c κs. search rules)
     (λ c.
-    let args = c.before.before.before.before.args in
+    let args = c.args in
     let on = begin_call args.table.now in (
-      few_answer args.table.now args.state.now on (omega (arith, state_size_lem)) c.too_short.ensures,
-      few_kept args.table.now args.state.now on (omega (arith, state_size_lem)),
+      few_answer args.table.now args.state-1.now on (omega (arith, state_size_lem)) c.too_short.ensures,
+      few_kept args.table.now args.state-1.now on (omega (arith, state_size_lem)),
     ))
     (λ c κs. omega (arith, state_size_lem))
     (λ c. search rules)
@@ -27,15 +27,15 @@ nomyugereka_begin_spec =
     (λ c. search rules)
     (λ c κs. (omega (arith, state_size_lem), omega (arith, state_size_lem)))
     (λ c κs.
-    let args = c.before.before.before.before.before.before.before.before.before.before.before.before.before.args in
-    let value = ap value_of c.before.before.before.before.before.before.begin.ensures.0 in
-    omega (arith, value, longest_log_lem, begin_value args.table.now c.before.before.before.before.before.before.before.before.words-in.result))
+    let args = c.args in
+    let value = ap value_of c.begin-heard.ensures.0 in
+    omega (arith, value, longest_log_lem, begin_value args.table.now c.words_in-words.result))
     (λ c. search rules)
     (λ c.
-    let args = c.before.before.before.before.before.before.before.before.before.before.before.before.before.before.args in
+    let args = c.args in
     let on = begin_call args.table.now in
-    let words = c.before.before.before.before.before.before.before.before.before.words-in.ensures in
-    let heard = c.before.before.before.before.before.before.before.begin.ensures in (
-      enough_answer args.table.now args.state.now on (omega (arith, state_size_lem)) words heard.0 c.heard.ensures,
-      enough_written args.table.now args.state.now on (omega (arith, state_size_lem)) words heard.1 c.before.before.before.put.ensures,
+    let words = c.words_in-words.ensures in
+    let heard = c.begin-heard.ensures in (
+      enough_answer args.table.now args.state-1.now on (omega (arith, state_size_lem)) words heard.0 c.heard.ensures,
+      enough_written args.table.now args.state-1.now on (omega (arith, state_size_lem)) words heard.1 c.put.ensures,
     )))

@@ -16,13 +16,13 @@ nomyugereka_finish_spec =
     (tie.spec
     (λ c κs. search rules)
     (λ c.
-    let args = c.before.before.before.before.args in
+    let args = c.args in
     few_answer args.table.now args.state.now (finish_call args.table.now) (omega (arith, state_size_lem)) c.too_short.ensures)
     (λ c κs. omega (arith, state_size_lem))
     (λ c. search rules)
     (λ c κs. search rules)
-    (λ c κs. omega (arith, ap value_of c.finish.ensures, longest_log_lem, finish_value c.before.before.before.before.before.before.args.table.now c.before.before.words-in.result))
+    (λ c κs. omega (arith, ap value_of c.finish.ensures, longest_log_lem, finish_value c.args.table.now c.words_in-words.result))
     (λ c.
-    let args = c.before.before.before.before.before.before.before.args in
-    let words = c.before.before.before.words-in.ensures in
-    enough_answer args.table.now args.state.now (finish_call args.table.now) (omega (arith, state_size_lem)) words c.before.finish.ensures c.heard.ensures))
+    let args = c.args in
+    let words = c.words_in-words.ensures in
+    enough_answer args.table.now args.state.now (finish_call args.table.now) (omega (arith, state_size_lem)) words c.finish.ensures c.heard.ensures))

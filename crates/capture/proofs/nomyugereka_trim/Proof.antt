@@ -16,16 +16,16 @@ nomyugereka_trim_spec =
     (λ c κs. search rules)
     (λ c. search rules)
     (λ c κs.
-    let args = c.before.before.before.before.before.before.before.before.before.before.before.before.before.args in
-    let counted = sym c.before.before.before.before.before.before.before.trim.ensures.0 ∙ ap trimmed_as c.before.count.given.1 in
-    omega (arith, trim_count args.table.now args.scratch.now args.out.now counted))
+    let args = c.args in
+    let counted = sym c.trim.ensures.0 ∙ ap trimmed_as c.count-1.given.1 in
+    omega (arith, trim_count args.table.now args.scratch-1.now args.out-1.now counted))
     (λ c. search rules)
     (λ c. search rules)
     (λ c.
-    let trimmed = c.before.before.before.before.before.before.before.before.trim.ensures in
-    (c.refused.ensures ∙ ap written_number (sym (ap trimmed_as c.before.before.number.given.1) ∙ trimmed.0), trimmed.1))
+    let trimmed = c.trim.ensures in
+    (c.refused.ensures ∙ ap written_number (sym (ap trimmed_as c.number-1.given.1) ∙ trimmed.0), trimmed.1))
     (λ c. search rules)
     (λ c. search rules)
     (λ c.
-    let trimmed = c.before.before.before.before.before.before.before.before.trim.ensures in
-    (c.written.ensures ∙ ap written_number (sym (ap trimmed_as c.before.before.count.given.1) ∙ trimmed.0), trimmed.1)))
+    let trimmed = c.trim.ensures in
+    (c.written.ensures ∙ ap written_number (sym (ap trimmed_as c.count-1.given.1) ∙ trimmed.0), trimmed.1)))

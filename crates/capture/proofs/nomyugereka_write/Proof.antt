@@ -16,14 +16,14 @@ nomyugereka_write_spec =
     (λ c κs. search rules)
     (λ c. search rules)
     (λ c κs.
-    let args = c.before.before.before.before.before.before.before.before.before.args in
-    let counted = sym c.before.before.before.before.before.write.ensures.0 ∙ ap written_as c.before.count.given.1 in
-    omega (arith, write_count args.table.now args.out.now counted))
+    let args = c.args in
+    let counted = sym c.write.ensures.0 ∙ ap written_as c.count-1.given.1 in
+    omega (arith, write_count args.table.now args.out-1.now counted))
     (λ c. search rules)
     (λ c.
-    let wrote = c.before.before.before.before.before.before.write.ensures in
-    (c.refused.ensures ∙ ap written_number (sym (ap written_as c.before.before.number.given.1) ∙ wrote.0), wrote.1))
+    let wrote = c.write.ensures in
+    (c.refused.ensures ∙ ap written_number (sym (ap written_as c.number-1.given.1) ∙ wrote.0), wrote.1))
     (λ c. search rules)
     (λ c.
-    let wrote = c.before.before.before.before.before.before.write.ensures in
-    (c.written.ensures ∙ ap written_number (sym (ap written_as c.before.before.count.given.1) ∙ wrote.0), wrote.1)))
+    let wrote = c.write.ensures in
+    (c.written.ensures ∙ ap written_number (sym (ap written_as c.count-1.given.1) ∙ wrote.0), wrote.1)))

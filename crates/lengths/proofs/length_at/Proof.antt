@@ -12,5 +12,5 @@ length_at_spec =
     (λ c. omega arith)
     (λ c. omega arith)
     (λ c. omega arith)
-    (λ c. omega (arith, c.shared-slice-known.given (64 * c.before.args.p + c.before.args.q)))
-    (λ c. (length_in_lem _ _ _ (omega arith) (omega arith), omega (arith, c.shared-slice-known.given (64 * c.before.args.p + c.before.args.q)))))
+    (λ c. omega (arith, c.shared_slice_known-1.given (64 * c.args.p + c.args.q)))
+    (λ c. (length_in_lem _ _ _ (omega arith) (omega arith), omega (arith, c.shared_slice_known-1.given (64 * c.args.p + c.args.q)))))

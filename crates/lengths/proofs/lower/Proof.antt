@@ -22,11 +22,11 @@ lower_spec =
     (λ c κs. tt)
     (λ c. omega arith)
     (λ c. omega arith)
-    (λ c. length-set c.before.before.before.before.before.before.before.before.before.args.scratch.now _ _)
+    (λ c. length-set c.args.scratch.now _ _)
     (λ c.
     let d = c.before.before in
     let f = d.before.before.before in
-    let counted = f.before.before.lesser.ensures in
+    let counted = f.lesser-counted.ensures in
     lower_one (omega arith) (omega arith) counted (omega arith) (omega (arith, f.length_at.ensures.0)) d.note.ensures)
     (λ c. refl)
-    (λ c. lower_stays (omega arith) (omega arith) c.before.before.before.lesser.ensures (omega (arith, c.before.length_at.ensures.0))))
+    (λ c. lower_stays (omega arith) (omega arith) c.lesser-counted.ensures (omega (arith, c.length_at.ensures.0))))

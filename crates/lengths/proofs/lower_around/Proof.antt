@@ -12,67 +12,67 @@ use Rattle.lengths.proofs.LowerAround.{AroundSoFar, around_none, around_skip, ar
 use Rattle.lengths.proofs.lower_around.Statement.{statement}
 use Rattle.lengths.proofs.lower_around.Tie as tie
 
-abbrev invariant-loop : tie.invariant-loop
-invariant-loop table from to scratch₀ due₀ soonest₀ p q moves part k₀ scratch due soonest k =
+abbrev invariant-loop-k : tie.invariant-loop-k
+invariant-loop-k table from to scratch₀ due₀ soonest₀ p q moves part k₀ scratch due soonest k =
     AroundSoFar (parse table) part p q moves scratch₀ due₀ scratch due k
 
-abbrev decreases-loop : tie.decreases-loop
-decreases-loop table from to scratch₀ due₀ soonest₀ p q moves part k₀ scratch due soonest k = length part / 4 - k
+abbrev decreases-loop-k : tie.decreases-loop-k
+decreases-loop-k table from to scratch₀ due₀ soonest₀ p q moves part k₀ scratch due soonest k = length part / 4 - k
 
-good : (c : tie.After-checked-moves invariant-loop decreases-loop) → verdict c.before.before.before.args.table.now ≡ 0
-good c = c.before.before.before.requires.0.0
+good : (c : tie.After-checked_moves-part invariant-loop-k decreases-loop-k) → verdict c.args.table.now ≡ 0
+good c = c.requires.0.0
 
-most : (c : tie.After-checked-moves invariant-loop decreases-loop) → length c.checked-moves.result.now / 4 ≤ 1024
-most c = moves_most _ (good c) c.checked-moves.ensures
+most : (c : tie.After-checked_moves-part invariant-loop-k decreases-loop-k) → length c.checked_moves-part.result.now / 4 ≤ 1024
+most c = moves_most _ (good c) c.checked_moves-part.ensures
 
-chained : (c : tie.After-checked-moves invariant-loop decreases-loop) → Chained c.checked-moves.result.now 3 c.before.before.before.args.to.now
-chained c = rw c.checked-moves.ensures c.before.before.before.requires.1.1
+chained : (c : tie.After-checked_moves-part invariant-loop-k decreases-loop-k) → Chained c.checked_moves-part.result.now 3 c.args.to.now
+chained c = rw c.checked_moves-part.ensures c.requires.1.1
 
-low : (c : tie.In-loop invariant-loop decreases-loop) → byte c.before.before.before.checked-moves.result.now (4 * c.before.loop.k) < 64
-low c = let d = c.before.before.before in (move_bounds _ (good d) d.checked-moves.ensures _ c.loop-test.true).0
+low : (c : tie.In-loop-k invariant-loop-k decreases-loop-k) → byte c.checked_moves-part.result.now (4 * c.loop-k.k) < 64
+low c = let d = c.before.before.before in (move_bounds _ (good d) d.checked_moves-part.ensures _ c.loop-k-test.true).0
 
 pub lower_around_spec : {M : Type 1} → statement M
 lower_around_spec =
     tie.close
     (tie.spec
-    invariant-loop
-    decreases-loop
-    (λ c κs. c.before.before.requires.0.0)
+    invariant-loop-k
+    decreases-loop-k
+    (λ c κs. c.requires.0.0)
     (λ c. omega arith)
     (λ c. omega arith)
-    (λ c. let d = c.before in around_none _ (good d) d.checked-moves.ensures (chained d) d.before.before.before.requires.0.1.0)
+    (λ c. let d = c.before in around_none _ (good d) d.checked_moves-part.ensures (chained d) d.requires.0.1.0)
     (λ c. omega (arith, most c.before.before.before))
     (λ c. omega (arith, most c.before.before.before))
     (λ c. omega (arith, most c.before.before.before))
     (λ c. omega (arith, most c.before.before.before))
     (λ c. omega (arith, most c.before.before.before.before))
     (λ c. omega arith)
-    (λ c. omega (arith, c.shared-slice-known2.given (4 * c.before.before.before.loop.k + 1)))
+    (λ c. omega (arith, c.shared_slice_known-in-loop-k-1.given (4 * c.loop-k.k + 1)))
     (λ c κs. omega arith)
     (λ c. omega arith)
     (λ c. omega (arith, low c.before.before.before.before.before.before.before.before))
     (λ c. omega (arith, most c.before.before.before.before.before.before.before.before.before.before.before))
     (λ c. omega arith)
-    (λ c. let byte_fits = c.shared-slice-known4.given in omega (arith, byte_fits (4 * c.before.before.before.before.before.before.before.before.before.before.loop.k + 1), byte_fits (4 * c.before.before.before.before.before.before.before.before.before.before.loop.k + 2)))
+    (λ c. let byte_fits = c.shared_slice_known-then-is_of_kind-2-1.given in omega (arith, byte_fits (4 * c.loop-k.k + 1), byte_fits (4 * c.loop-k.k + 2)))
     (λ c. omega arith)
     (λ c κs.
     let d = c.before.before.before.before.before.before.before.before.before in
-    let a = d.before.before.before.before.before.before.requires in
-    ((a.0.0, (low d, (a.0.1.1.0, omega (arith, d.before.loop.invariant.lowered.kept.long)))), a.1.0))
+    let a = d.requires in
+    ((a.0.0, (low d, (a.0.1.1.0, omega (arith, d.loop-k.invariant.lowered.kept.long)))), a.1.0))
     (λ c.
     let d = c.before.before.before.before.before.before.before.before.before.before.before.before in
-    walked_further (chained d.before.before.before) d.loop-test.true)
+    walked_further (chained d.before.before.before) d.loop-k-test.true)
     (λ c.
     let t = c.before.before.before.before.before.before.before.before in
     let d = t.before.before.before.before in
     let e = d.before.before.before in
-    around_take _ (good e) e.checked-moves.ensures (chained e) d.loop-test.true d.before.loop.invariant
-    t.before.is-of-kind.ensures t.if1.true c.before.before.lower-closing.ensures)
-    (λ c. let d = c.before.before.before.before in walked_further (chained d.before.before.before) d.loop-test.true)
+    around_take _ (good e) e.checked_moves-part.ensures (chained e) d.loop-k-test.true d.loop-k.invariant
+    t.is_of_kind.ensures t.if-is_of_kind.true c.lower_closing.ensures)
+    (λ c. let d = c.before.before.before.before in walked_further (chained d.before.before.before) d.loop-k-test.true)
     (λ c.
     let d = c.before.before.before.before in
     let e = d.before.before.before in
-    around_skip _ (good e) e.checked-moves.ensures (chained e) d.loop-test.true d.before.loop.invariant
-    c.before.is-of-kind.ensures c.if1.false)
-    (λ c. c.before.loop.invariant.lowered.kept.long)
-    (λ c. let d = c.before.before.before in around_all _ (good d) d.checked-moves.ensures c.loop-test.false c.before.loop.invariant))
+    around_skip _ (good e) e.checked_moves-part.ensures (chained e) d.loop-k-test.true d.loop-k.invariant
+    c.is_of_kind.ensures c.if-is_of_kind.false)
+    (λ c. c.loop-k.invariant.lowered.kept.long)
+    (λ c. let d = c.before.before.before in around_all _ (good d) d.checked_moves-part.ensures c.loop-k-test.false c.loop-k.invariant))

@@ -11,33 +11,33 @@ use Rattle.lengths.proofs.LowerMany.{LoweredBelow, below_none, below_skip, below
 use Rattle.lengths.proofs.lower_before.Statement.{statement}
 use Rattle.lengths.proofs.lower_before.Tie as tie
 
-abbrev invariant-loop : tie.invariant-loop
-invariant-loop states scratch₀ due₀ soonest₀ p q moves r₀ scratch due soonest r =
+abbrev invariant-loop-r : tie.invariant-loop-r
+invariant-loop-r states scratch₀ due₀ soonest₀ p q moves r₀ scratch due soonest r =
     (r ≤ states)
     × LoweredBelow (λ r. length_in scratch₀ r p ≤ over) (λ r. r) (λ r. q) (λ r. length_in scratch₀ r p + moves)
     (λ t. HasLength (automaton t) over p q moves) r scratch₀ due₀ scratch due
 
-abbrev decreases-loop : tie.decreases-loop
-decreases-loop states scratch₀ due₀ soonest₀ p q moves r₀ scratch due soonest r = states - r
+abbrev decreases-loop-r : tie.decreases-loop-r
+decreases-loop-r states scratch₀ due₀ soonest₀ p q moves r₀ scratch due soonest r = states - r
 
 pub lower_before_spec : {M : Type 1} → statement M
 lower_before_spec =
     tie.close
     (tie.spec
-    invariant-loop
-    decreases-loop
+    invariant-loop-r
+    decreases-loop-r
     (λ c. (omega arith, below_none _ _))
-    (λ c κs. (omega arith, (omega arith, omega (arith, c.before.before.loop.invariant.1.lowered.kept.long))))
+    (λ c κs. (omega arith, (omega arith, omega (arith, c.loop-r.invariant.1.lowered.kept.long))))
     (λ c. omega arith)
-    (λ c κs. (omega arith, (omega arith, omega (arith, c.before.before.before.before.before.before.before.loop.invariant.1.lowered.kept.long))))
+    (λ c κs. (omega arith, (omega arith, omega (arith, c.loop-r.invariant.1.lowered.kept.long))))
     (λ c. omega arith)
     (λ c. omega arith)
     (λ c.
     let d = c.before.before.before.before in
-    let p = d.before.before.requires in
-    let h = d.loop.invariant.1 in
-    let e = c.before.length_at.ensures.0 in
-    let less = h.lowered.less d.loop.r _ (omega arith) p.1.0 in (
+    let p = d.requires in
+    let h = d.loop-r.invariant.1 in
+    let e = c.length_at-more.ensures.0 in
+    let less = h.lowered.less d.loop-r.r _ (omega arith) p.1.0 in (
       omega arith,
       ⊎_elim
           (λ w.
@@ -46,9 +46,9 @@ lower_before_spec =
           (λ t g k. rw (← e) (has_join (automaton t) (g.has _ _ (omega arith) p.1.0 (omega (arith, w.0.taken, over_is))) k))
           (λ r l. (omega arith, p.1.1.0))))
           (λ w. rw (w.1, w.2) (below_skip h (λ l. omega (arith, less, over_is, w.0.left))))
-          c.if1.branch,
+          c.if-more-le-OVER.branch,
     ))
-    (λ c. c.before.loop.invariant.1.lowered.kept.long)
+    (λ c. c.loop-r.invariant.1.lowered.kept.long)
     (λ c.
-    let h = c.before.loop.invariant.1 in
+    let h = c.loop-r.invariant.1 in
     record { lowered = h.lowered; before = λ r l. h.bound r (omega arith); sound = h.sound }))

@@ -11,35 +11,35 @@ use Rattle.lengths.proofs.LowerMany.{PlainBelow, below_none, plain_skip, plain_m
 use Rattle.lengths.proofs.lower_plain.Statement.{statement}
 use Rattle.lengths.proofs.lower_plain.Tie as tie
 
-abbrev invariant-loop : tie.invariant-loop
-invariant-loop table scratch₀ due₀ soonest₀ part k₀ scratch due soonest k = (k ≤ length part / 4) × PlainBelow (parse table) part k scratch₀ due₀ scratch due
+abbrev invariant-loop-k : tie.invariant-loop-k
+invariant-loop-k table scratch₀ due₀ soonest₀ part k₀ scratch due soonest k = (k ≤ length part / 4) × PlainBelow (parse table) part k scratch₀ due₀ scratch due
 
-abbrev decreases-loop : tie.decreases-loop
-decreases-loop table scratch₀ due₀ soonest₀ part k₀ scratch due soonest k = length part / 4 - k
+abbrev decreases-loop-k : tie.decreases-loop-k
+decreases-loop-k table scratch₀ due₀ soonest₀ part k₀ scratch due soonest k = length part / 4 - k
 
-good : (c : tie.After-checked-moves invariant-loop decreases-loop) → verdict c.before.before.before.args.table.now ≡ 0
-good c = c.before.before.before.requires.0
+good : (c : tie.After-checked_moves-part invariant-loop-k decreases-loop-k) → verdict c.args.table.now ≡ 0
+good c = c.requires.0
 
-bounds : (c : tie.In-loop invariant-loop decreases-loop) →
-    let u = c.before.before.checked-moves.result.now in
-    let k = c.before.loop.k in
-    let t = parse c.before.before.before.before.before.args.table.now in
+bounds : (c : tie.In-loop-k invariant-loop-k decreases-loop-k) →
+    let u = c.checked_moves-part.result.now in
+    let k = c.loop-k.k in
+    let t = parse c.args.table.now in
     (byte u (4 * k) < 64) × (byte u (4 * k + 1) < letter_count t) × (byte u (4 * k + 3) < 64)
-bounds c = move_bounds _ (good c.before.before) c.before.before.checked-moves.ensures _ c.loop-test.true
+bounds c = move_bounds _ (good c.before.before) c.checked_moves-part.ensures _ c.loop-k-test.true
 
 pub lower_plain_spec : {M : Type 1} → statement M
 lower_plain_spec =
     tie.close
     (tie.spec
-    invariant-loop
-    decreases-loop
-    (λ c κs. c.before.before.requires.0)
+    invariant-loop-k
+    decreases-loop-k
+    (λ c κs. c.requires.0)
     (λ c. (omega arith, below_none _ _))
     (λ c. omega arith)
     (λ c. omega arith)
     (λ c. omega arith)
     (λ c. omega arith)
-    (λ c. omega (arith, c.shared-slice-known2.given (4 * c.before.before.loop.k + 1)))
+    (λ c. omega (arith, c.shared_slice_known-in-loop-k-1.given (4 * c.loop-k.k + 1)))
     (λ c κs. omega arith)
     (λ c. omega arith)
     (λ c. omega (arith, bounds c.before.before.before.before.before.before.before))
@@ -48,22 +48,22 @@ lower_plain_spec =
     (λ c. omega (arith, bounds c.before.before.before.before.before.before.before.before))
     (λ c κs.
     let d = c.before.before.before.before.before.before.before.before in
-    ((bounds d).0, ((bounds d).2, omega (arith, d.before.loop.invariant.1.lowered.kept.long, d.before.before.before.before.before.requires.1))))
+    ((bounds d).0, ((bounds d).2, omega (arith, d.loop-k.invariant.1.lowered.kept.long, d.requires.1))))
     (λ c. omega arith)
     (λ c.
     let e = c.before.before in
     let f = e.before.before.before.before.before.before in
     let d = f.before.before.before in
-    let h = d.before.loop.invariant.1 in
+    let h = d.loop-k.invariant.1 in
     let m = d.before.before in (
       omega arith,
-      plain_more _ (good m) m.checked-moves.ensures h d.loop-test.true f.before.is-of-kind.ensures f.if1.true e.lower.ensures,
+      plain_more _ (good m) m.checked_moves-part.ensures h d.loop-k-test.true f.is_of_kind.ensures f.if-is_of_kind.true e.lower.ensures,
     ))
     (λ c. omega arith)
     (λ c.
     let d = c.before.before.before in
-    let h = d.before.loop.invariant.1 in
+    let h = d.loop-k.invariant.1 in
     let m = d.before.before in
-    (omega arith, plain_skip _ (good m) m.checked-moves.ensures h d.loop-test.true c.before.is-of-kind.ensures c.if1.false))
-    (λ c. c.before.loop.invariant.1.lowered.kept.long)
-    (λ c. plain_all _ (good c.before.before) c.before.before.checked-moves.ensures c.before.loop.invariant.1 (omega arith)))
+    (omega arith, plain_skip _ (good m) m.checked_moves-part.ensures h d.loop-k-test.true c.is_of_kind.ensures c.if-is_of_kind.false))
+    (λ c. c.loop-k.invariant.1.lowered.kept.long)
+    (λ c. plain_all _ (good c.before.before) c.checked_moves-part.ensures c.loop-k.invariant.1 (omega arith)))

@@ -5,22 +5,22 @@ use Rattle.lengths.proofs.LowerOne.{same_none, same_more, same_all}
 use Rattle.lengths.proofs.lower_same.Statement.{statement}
 use Rattle.lengths.proofs.lower_same.Tie as tie
 
-abbrev invariant-loop : tie.invariant-loop
-invariant-loop states scratch₀ due₀ soonest₀ p₀ scratch due soonest p = LoweredSame p scratch₀ due₀ scratch due
+abbrev invariant-loop-p : tie.invariant-loop-p
+invariant-loop-p states scratch₀ due₀ soonest₀ p₀ scratch due soonest p = LoweredSame p scratch₀ due₀ scratch due
 
-abbrev decreases-loop : tie.decreases-loop
-decreases-loop states scratch₀ due₀ soonest₀ p₀ scratch due soonest p = states - p
+abbrev decreases-loop-p : tie.decreases-loop-p
+decreases-loop-p states scratch₀ due₀ soonest₀ p₀ scratch due soonest p = states - p
 
 pub lower_same_spec : {M : Type 1} → statement M
 lower_same_spec =
     tie.close
     (tie.spec
-    invariant-loop
-    decreases-loop
+    invariant-loop-p
+    decreases-loop-p
     (λ c. same_none _ _)
-    (λ c κs. (omega arith, (omega arith, omega (arith, c.before.before.before.before.loop.invariant.lowered.kept.long))))
+    (λ c κs. (omega arith, (omega arith, omega (arith, c.loop-p.invariant.lowered.kept.long))))
     (λ c. omega arith)
     (λ c. omega arith)
-    (λ c. same_more (omega arith) c.before.before.before.before.before.before.before.loop.invariant c.before.before.lower.ensures)
-    (λ c. c.before.loop.invariant.lowered.kept.long)
-    (λ c. same_all (omega arith) c.before.loop.invariant))
+    (λ c. same_more (omega arith) c.loop-p.invariant c.lower.ensures)
+    (λ c. c.loop-p.invariant.lowered.kept.long)
+    (λ c. same_all (omega arith) c.loop-p.invariant))

@@ -13,5 +13,5 @@ note_spec =
     (λ c. omega arith)
     (λ c. omega arith)
     (λ c. omega arith)
-    (λ c. length-set c.before.args.due.now _ _)
-    (λ c. with_pair (record { rows = c.before.requires.1.1; fits = λ j. (c.slice-known.given j).fits }) (omega arith) (omega arith)))
+    (λ c. length-set c.args.due.now _ _)
+    (λ c. with_pair (record { rows = c.requires.1.1; fits = λ j. (c.slice_known-1.given j).fits }) (omega arith) (omega arith)))

@@ -5,18 +5,18 @@ use Rattle.lengths.proofs.Search.{DueBelow, below_none, below_here, below_past, 
 use Rattle.lengths.proofs.soonest_row.Statement.{statement}
 use Rattle.lengths.proofs.soonest_row.Tie as tie
 
-abbrev invariant-loop : tie.invariant-loop
-invariant-loop due soonest states best₀ least₀ p₀ best least p = (p ≤ states) × DueBelow states p due best
+abbrev invariant-loop-p : tie.invariant-loop-p
+invariant-loop-p due soonest states best₀ least₀ p₀ best least p = (p ≤ states) × DueBelow states p due best
 
-abbrev decreases-loop : tie.decreases-loop
-decreases-loop due soonest states best₀ least₀ p₀ best least p = states - p
+abbrev decreases-loop-p : tie.decreases-loop-p
+decreases-loop-p due soonest states best₀ least₀ p₀ best least p = states - p
 
 pub soonest_row_spec : {M : Type 1} → statement M
 soonest_row_spec =
     tie.close
     (tie.spec
-    invariant-loop
-    decreases-loop
+    invariant-loop-p
+    decreases-loop-p
     (λ c. (omega arith, below_none _ _))
     (λ c. omega arith)
     (λ c. omega arith)
@@ -29,6 +29,6 @@ soonest_row_spec =
     (λ c. (
       omega arith,
       ⊎_elim (λ w. rw w.2 (below_here _ _ (omega arith) w.0.taken))
-          (λ w. rw w.1 (below_past _ _ w.0.left c.before.before.before.before.loop.invariant.1)) c.if1.branch,
+          (λ w. rw w.1 (below_past _ _ w.0.left c.loop-p.invariant.1)) c.if-due-p.branch,
     ))
-    (λ c. below_all (omega arith) c.before.loop.invariant.1))
+    (λ c. below_all (omega arith) c.loop-p.invariant.1))

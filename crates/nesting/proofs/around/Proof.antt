@@ -9,23 +9,23 @@ use Rattle.nesting.proofs.Rounds.{around_none, around_more}
 use Rattle.nesting.proofs.around.Statement.{statement}
 use Rattle.nesting.proofs.around.Tie as tie
 
-abbrev invariant-loop : tie.invariant-loop
-invariant-loop table marks first r last s₀ mark₀ s mark = (mark ≤ marks) × HoldsExactly s (Around (parse table) (kind_numbered first) (kind_numbered last) r mark)
+abbrev invariant-loop-mark : tie.invariant-loop-mark
+invariant-loop-mark table marks first r last s₀ mark₀ s mark = (mark ≤ marks) × HoldsExactly s (Around (parse table) (kind_numbered first) (kind_numbered last) r mark)
 
-abbrev decreases-loop : tie.decreases-loop
-decreases-loop table marks first r last s₀ mark₀ s mark = marks - mark
+abbrev decreases-loop-mark : tie.decreases-loop-mark
+decreases-loop-mark table marks first r last s₀ mark₀ s mark = marks - mark
 
 pub around_spec : {M : Type 1} → statement M
 around_spec =
     tie.close
     (tie.spec
-    invariant-loop
-    decreases-loop
+    invariant-loop-mark
+    decreases-loop-mark
     (λ c κs. tt)
-    (λ c. (omega arith, around_none c.empty.ensures))
-    (λ c κs. c.before.before.before.before.requires)
+    (λ c. (omega arith, around_none c.empty-s.ensures))
+    (λ c κs. c.requires)
     (λ c κs. tt)
     (λ c. omega arith)
     (λ c. omega arith)
-    (λ c. (omega arith, around_more c.before.before.before.loop.invariant.1 c.before.around_by.ensures c.either.ensures))
-    (λ c. let e : c.before.loop.mark ≡ c.before.before.before.before.args.marks = omega arith in rw e at c.before.loop.invariant.1))
+    (λ c. (omega arith, around_more c.loop-mark.invariant.1 c.around_by.ensures c.either-next.ensures))
+    (λ c. let e : c.loop-mark.mark ≡ c.args.marks = omega arith in rw e at c.loop-mark.invariant.1))

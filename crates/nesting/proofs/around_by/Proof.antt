@@ -6,8 +6,8 @@ pub around_by_spec : {M : Type 1} → statement M
 around_by_spec =
     tie.close
     (tie.spec
-    (λ c κs. (c.before.requires.0, c.before.requires.1.0))
+    (λ c κs. (c.requires.0, c.requires.1.0))
     (λ c κs. tt)
-    (λ c κs. (c.before.before.before.requires.0, c.before.before.before.requires.1.1))
+    (λ c κs. (c.requires.0, c.requires.1.1))
     (λ c κs. tt)
-    (λ c. around_by c.before.before.before.Moves-of.ensures c.before.before.join.ensures c.before.moves-of2.ensures c.join2.ensures))
+    (λ c. around_by c.before.before.before.Moves-of.ensures c.join.ensures c.moves_of-2.ensures c.join-2.ensures))

@@ -9,28 +9,28 @@ use Rattle.nesting.proofs.Rounds.{larger, pair_round_keeps, pairs_done}
 use Rattle.nesting.proofs.balanced_pairs.Statement.{statement}
 use Rattle.nesting.proofs.balanced_pairs.Tie as tie
 
-abbrev invariant-loop : tie.invariant-loop
-invariant-loop table states marks r₀ r = IsRelation r × PairsUnder (parse table) r
+abbrev invariant-loop-s : tie.invariant-loop-s
+invariant-loop-s table states marks r₀ r = IsRelation r × PairsUnder (parse table) r
 
-abbrev decreases-loop : tie.decreases-loop
-decreases-loop table states marks r₀ r = 4096 - size_of r
+abbrev decreases-loop-s : tie.decreases-loop-s
+decreases-loop-s table states marks r₀ r = 4096 - size_of r
 
 pub balanced_pairs_spec : {M : Type 1} → statement M
 balanced_pairs_spec =
     tie.close
     (tie.spec
-    invariant-loop
-    decreases-loop
-    (λ c κs. (c.before.requires.good, c.before.requires.states))
-    (λ c. (owned _ _ c.first-pairs.type-inv, pairs_start _ (good_table _ c.before.before.requires.good) c.first-pairs.ensures))
-    (λ c κs. (c.before.before.before.requires.good, c.before.before.before.requires.marks))
+    invariant-loop-s
+    decreases-loop-s
+    (λ c κs. (c.requires.good, c.requires.states))
+    (λ c. (owned _ _ c.first_pairs-r.type_inv, pairs_start _ (good_table _ c.requires.good) c.first_pairs-r.ensures))
+    (λ c κs. (c.requires.good, c.requires.marks))
     (λ c κs. tt)
     (λ c κs. tt)
     (λ c.
     let d = c.before.before.before in
-    let i = d.before.loop.invariant in
-    pairs_done _ (good_table _ d.before.before.before.before.requires.good) i.0 (owned _ _ d.pairs-round.type-inv) i.1 d.pairs-round.ensures (omega arith))
-    (λ c. larger (pair_round_keeps c.before.before.before.pairs-round.ensures) (λ e. c.if1.false (omega arith)))
+    let i = d.loop-s.invariant in
+    pairs_done _ (good_table _ d.requires.good) i.0 (owned _ _ d.pairs_round-s.type_inv) i.1 d.pairs_round-s.ensures (omega arith))
+    (λ c. larger (pair_round_keeps c.pairs_round-s.ensures) (λ e. c.if-size.false (omega arith)))
     (λ c.
     let d = c.before.before.before in
-    (owned _ _ d.pairs-round.type-inv, pairs_more _ (good_table _ d.before.before.before.before.requires.good) d.before.loop.invariant.1 d.pairs-round.ensures)))
+    (owned _ _ d.pairs_round-s.type_inv, pairs_more _ (good_table _ d.requires.good) d.loop-s.invariant.1 d.pairs_round-s.ensures)))

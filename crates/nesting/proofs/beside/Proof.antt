@@ -8,4 +8,4 @@ beside_spec =
     (tie.spec
     (λ c κs. tt)
     (λ c κs. tt)
-    (λ c. beside_joins c.before.join.ensures c.join2.ensures))
+    (λ c. beside_joins c.join.ensures c.join-2.ensures))

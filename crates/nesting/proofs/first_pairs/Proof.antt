@@ -10,7 +10,7 @@ unfolding kind_numbered
 first_pairs_spec =
     tie.close
     (tie.spec
-    (λ c κs. omega (arith, c.before.requires.1, (good_storable _ c.before.requires.0).states))
-    (λ c κs. (c.before.before.requires.0, omega arith))
+    (λ c κs. omega (arith, c.requires.1, (good_storable _ c.requires.0).states))
+    (λ c κs. (c.requires.0, omega arith))
     (λ c κs. tt)
-    (λ c. pair_start c.before.before.before.before.requires.1 c.before.before.identity.ensures c.before.Moves-of.ensures c.either.ensures))
+    (λ c. pair_start c.requires.1 c.identity.ensures c.before.Moves-of.ensures c.either.ensures))

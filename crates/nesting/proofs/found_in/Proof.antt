@@ -8,11 +8,11 @@ pub found_in_spec : {M : Type 1} → statement M
 found_in_spec =
     tie.close
     (tie.spec
-    (λ c κs. c.before.requires)
-    (λ c κs. (c.before.before.requires.good, (c.before.before.requires.marks, c.balanced-pairs.ensures)))
+    (λ c κs. c.requires)
+    (λ c κs. (c.requires.good, (c.requires.marks, c.balanced_pairs-pairs.ensures)))
     (λ c κs. tt)
     (λ c κs. tt)
     (λ c.
-    let b = c.before.before.before.balanced-pairs.ensures in
-    let l = c.before.before.live-levels.ensures in
-    (sizes_found _ c.before.before.before.before.before.requires.good (sym c.before.size.ensures ∙ ap size_of b) (sym c.size2.ensures ∙ ap size_of l), (b, l))))
+    let b = c.balanced_pairs-pairs.ensures in
+    let l = c.live_levels-levels.ensures in
+    (sizes_found _ c.requires.good (sym c.size.ensures ∙ ap size_of b) (sym c.size-2.ensures ∙ ap size_of l), (b, l))))

@@ -9,5 +9,5 @@ if_final_spec =
     tie.close
     (tie.spec
     (λ c κs. tt)
-    (λ c o. (λ e. (e, subst T (sym (c.before.is-final.ensures ∙ c.if1.true)) tt), λ w. w.0))
-    (λ c o. (λ e. absurd (no_digit o refl e), λ w. absurd (subst T (c.before.is-final.ensures ∙ c.if1.false) w.1))))
+    (λ c o. (λ e. (e, subst T (sym (c.is_final.ensures ∙ c.if-is_final.true)) tt), λ w. w.0))
+    (λ c o. (λ e. absurd (no_digit o refl e), λ w. absurd (subst T (c.is_final.ensures ∙ c.if-is_final.false) w.1))))

@@ -12,9 +12,9 @@ initial_digit_spec =
     (λ c κs. tt)
     (λ c. omega arith)
     (λ c k.
-    let l = c.before.before.before.requires in
-    let initial = subst T (sym (c.before.is-initial.ensures ∙ c.if1.true)) tt in
+    let l = c.requires in
+    let initial = subst T (sym (c.is_initial.ensures ∙ c.if-is_initial.true)) tt in
     (λ e. let o = (one_digit l k).0 e in (o, rw o initial), λ w. (one_digit l k).1 w.0))
     (λ c k.
-    let other = c.before.is-initial.ensures ∙ c.if1.false in
+    let other = c.is_initial.ensures ∙ c.if-is_initial.false in
     (λ e. absurd (no_digit k refl e), λ w. absurd (subst T other (rw w.0 at w.1)))))

@@ -10,14 +10,14 @@ is_move_of_spec =
     (tie.spec
     (λ c. omega arith)
     (λ c. omega arith)
-    (λ c. omega (arith, c.shared-slice-known3.given (c.before.before.before.args.i + 2)))
+    (λ c. omega (arith, c.shared_slice_known-3-1.given (c.args.i + 2)))
     (λ c. omega arith)
     (λ c. omega arith)
-    (λ c. omega (arith, c.shared-slice-known4.given (c.before.before.before.before.before.args.i + 1)))
+    (λ c. omega (arith, c.shared_slice_known-then-here-mark-1.given (c.args.i + 1)))
     (λ c κs. omega arith)
     (λ c.
-    let a = c.before.before.before.before.before.before.args in
-    mark_same a.table.now a.part.now a.i a.kind c.before.before.if1.true c.is-of-kind.ensures)
+    let a = c.args in
+    mark_same a.table.now a.part.now a.i a.kind c.if-here-mark.true c.is_of_kind.ensures)
     (λ c.
-    let a = c.before.before.before.before.args in
-    mark_other a.table.now a.part.now a.i a.kind c.if1.false))
+    let a = c.args in
+    mark_other a.table.now a.part.now a.i a.kind c.if-here-mark.false))

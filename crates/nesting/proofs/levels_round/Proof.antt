@@ -10,9 +10,9 @@ levels_round_spec =
     tie.close
     (tie.spec
     (λ c κs. tt)
-    (λ c κs. (c.before.before.requires.0, (omega arith, omega arith)))
+    (λ c κs. (c.requires.0, (omega arith, omega arith)))
     (λ c κs. tt)
     (λ c κs. tt)
     (λ c.
-    level_round c.before.before.before.before.before.requires.1 c.before.before.before.beside.ensures
-    c.before.before.around.ensures c.before.both.ensures c.either.ensures))
+    level_round c.requires.1 c.beside.ensures
+    c.around-opened.ensures c.both.ensures c.either.ensures))

@@ -10,28 +10,28 @@ use Rattle.nesting.proofs.MovesFound.{MovesSoFar, moves_none, moves_skip, moves_
 use Rattle.nesting.proofs.moves_of.Statement.{statement}
 use Rattle.nesting.proofs.moves_of.Tie as tie
 
-abbrev invariant-loop : tie.invariant-loop
-invariant-loop table kind mark part r₀ k₀ r k = MovesSoFar (parse table) (kind_numbered kind) mark part k r × (k ≤ length part / 4)
+abbrev invariant-loop-k : tie.invariant-loop-k
+invariant-loop-k table kind mark part r₀ k₀ r k = MovesSoFar (parse table) (kind_numbered kind) mark part k r × (k ≤ length part / 4)
 
-abbrev decreases-loop : tie.decreases-loop
-decreases-loop table kind mark part r₀ k₀ r k = length part / 4 - k
+abbrev decreases-loop-k : tie.decreases-loop-k
+decreases-loop-k table kind mark part r₀ k₀ r k = length part / 4 - k
 
-good : (c : tie.In-loop invariant-loop decreases-loop) → verdict c.before.before.before.before.args.table.now ≡ 0
-good c = c.before.before.before.before.requires.0
+good : (c : tie.In-loop-k invariant-loop-k decreases-loop-k) → verdict c.args.table.now ≡ 0
+good c = c.requires.0
 
-bounds : (c : tie.In-loop invariant-loop decreases-loop)
-    → (byte c.before.before.checked-moves.result.now (4 * c.before.loop.k) < 64)
-    × (byte c.before.before.checked-moves.result.now (4 * c.before.loop.k + 1) < letter_count (parse c.before.before.before.before.args.table.now))
-    × (byte c.before.before.checked-moves.result.now (4 * c.before.loop.k + 3) < 64)
-bounds c = move_bounds _ (good c) c.before.before.checked-moves.ensures _ c.loop-test.true
+bounds : (c : tie.In-loop-k invariant-loop-k decreases-loop-k)
+    → (byte c.checked_moves-part.result.now (4 * c.loop-k.k) < 64)
+    × (byte c.checked_moves-part.result.now (4 * c.loop-k.k + 1) < letter_count (parse c.args.table.now))
+    × (byte c.checked_moves-part.result.now (4 * c.loop-k.k + 3) < 64)
+bounds c = move_bounds _ (good c) c.checked_moves-part.ensures _ c.loop-k-test.true
 
 pub moves_of_spec : {M : Type 1} → statement M
 moves_of_spec =
     tie.close
     (tie.spec
-    invariant-loop
-    decreases-loop
-    (λ c κs. c.before.requires.0)
+    invariant-loop-k
+    decreases-loop-k
+    (λ c κs. c.requires.0)
     (λ c. (moves_none _ _ _ _, omega arith))
     (λ c. omega arith)
     (λ c. omega arith)
@@ -49,10 +49,10 @@ moves_of_spec =
     (λ c. omega arith)
     (λ c.
     let d = c.before.before.before.before in
-    let t = taken _ (good d) d.before.before.checked-moves.ensures _ _ _ d.loop-test.true c.before.before.before.is-move-of.ensures c.before.before.if1.true in
-    (moves_take d.before.loop.invariant.0 t.0 t.1 (bounds d).0 (bounds d).2, omega arith))
+    let t = taken _ (good d) d.checked_moves-part.ensures _ _ _ d.loop-k-test.true c.is_move_of.ensures c.if-is_move_of.true in
+    (moves_take d.loop-k.invariant.0 t.0 t.1 (bounds d).0 (bounds d).2, omega arith))
     (λ c. omega arith)
     (λ c.
     let d = c.before.before in
-    (moves_skip d.before.loop.invariant.0 (skipped _ (good d) d.before.before.checked-moves.ensures _ _ _ d.loop-test.true c.before.is-move-of.ensures c.if1.false), omega arith))
-    (λ c. moves_all _ c.before.before.before.before.requires.0 c.before.before.checked-moves.ensures (omega arith) (omega arith) c.before.loop.invariant.0))
+    (moves_skip d.loop-k.invariant.0 (skipped _ (good d) d.checked_moves-part.ensures _ _ _ d.loop-k-test.true c.is_move_of.ensures c.if-is_move_of.false), omega arith))
+    (λ c. moves_all _ c.requires.0 c.checked_moves-part.ensures (omega arith) (omega arith) c.loop-k.invariant.0))

@@ -9,10 +9,10 @@ unfolding kind_numbered
 pairs_round_spec =
     tie.close
     (tie.spec
-    (λ c κs. (c.before.requires.0, (omega arith, omega arith)))
+    (λ c κs. (c.requires.0, (omega arith, omega arith)))
     (λ c κs. tt)
     (λ c κs. tt)
     (λ c κs. tt)
     (λ c.
-    pair_round c.before.before.before.before.before.requires.1 c.before.before.before.around.ensures
-    c.before.before.join.ensures c.before.either.ensures c.either2.ensures))
+    pair_round c.requires.1 c.around-nested.ensures
+    c.join.ensures c.either.ensures c.either-2.ensures))

@@ -6,25 +6,25 @@ use Rattle.pair_sets.proofs.ByLetter.{ByLetterSoFar, letters_none, letters_more,
 use Rattle.pair_sets.proofs.by_letter.Statement.{statement}
 use Rattle.pair_sets.proofs.by_letter.Tie as tie
 
-abbrev invariant-loop : tie.invariant-loop
-invariant-loop table part r₀ k₀ k-end r k = ByLetterSoFar part k r × (k ≤ length part / 4)
+abbrev invariant-loop-k : tie.invariant-loop-k
+invariant-loop-k table part r₀ k₀ k-end r k = ByLetterSoFar part k r × (k ≤ length part / 4)
 
-abbrev decreases-loop : tie.decreases-loop
-decreases-loop table part r₀ k₀ k-end r k = length part / 4 - k
+abbrev decreases-loop-k : tie.decreases-loop-k
+decreases-loop-k table part r₀ k₀ k-end r k = length part / 4 - k
 
-bounds : (c : tie.In-loop invariant-loop decreases-loop) →
-    let u = c.before.before.checked-moves.result.now in
-    let k = c.before.loop.k in
+bounds : (c : tie.In-loop-k invariant-loop-k decreases-loop-k) →
+    let u = c.checked_moves-part.result.now in
+    let k = c.loop-k.k in
     (byte u (4 * k) < 64) × (byte u (4 * k + 1) < 32) × (byte u (4 * k + 3) < 64)
-bounds c = letter_bounds _ c.before.before.before.before.requires c.before.before.checked-moves.ensures _ c.loop-test.true
+bounds c = letter_bounds _ c.requires c.checked_moves-part.ensures _ c.loop-k-test.true
 
 pub by_letter_spec : {M : Type 1} → statement M
 by_letter_spec =
     tie.close
     (tie.spec
-    invariant-loop
-    decreases-loop
-    (λ c κs. c.before.requires)
+    invariant-loop-k
+    decreases-loop-k
+    (λ c κs. c.requires)
     (λ c. (letters_none _, omega arith))
     (λ c. omega arith)
     (λ c. omega arith)
@@ -47,5 +47,5 @@ by_letter_spec =
     (λ c.
     let d = c.before.before.before in
     let b = bounds d in
-    (letters_more d.before.loop.invariant.0 b.0 b.1 b.2, omega arith))
-    (λ c. letters_all _ c.before.before.before.before.requires c.before.before.checked-moves.ensures (omega arith) (omega arith) c.before.loop.invariant.0))
+    (letters_more d.loop-k.invariant.0 b.0 b.1 b.2, omega arith))
+    (λ c. letters_all _ c.requires c.checked_moves-part.ensures (omega arith) (omega arith) c.loop-k.invariant.0))

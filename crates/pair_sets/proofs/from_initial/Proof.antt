@@ -8,18 +8,18 @@ use Rattle.pair_sets.proofs.Accepting.{from_none, from_here, from_past, from_all
 use Rattle.pair_sets.proofs.from_initial.Statement.{statement}
 use Rattle.pair_sets.proofs.from_initial.Tie as tie
 
-abbrev invariant-loop : tie.invariant-loop
-invariant-loop table states pairs x₀ i₀ x i = (i ≤ states) × DigitsExactly x (FromInitial (parse table) i pairs)
+abbrev invariant-loop-i : tie.invariant-loop-i
+invariant-loop-i table states pairs x₀ i₀ x i = (i ≤ states) × DigitsExactly x (FromInitial (parse table) i pairs)
 
-abbrev decreases-loop : tie.decreases-loop
-decreases-loop table states pairs x₀ i₀ x i = states - i
+abbrev decreases-loop-i : tie.decreases-loop-i
+decreases-loop-i table states pairs x₀ i₀ x i = states - i
 
 pub from_initial_spec : {M : Type 1} → statement M
 from_initial_spec =
     tie.close
     (tie.spec
-    invariant-loop
-    decreases-loop
+    invariant-loop-i
+    decreases-loop-i
     (λ c. (omega arith, from_none))
     (λ c κs. tt)
     (λ c. omega arith)
@@ -27,7 +27,7 @@ from_initial_spec =
     (λ c. omega arith)
     (λ c. omega arith)
     (λ c.
-    let h = c.before.before.before.loop.invariant.1 in
-    let g = c.before.is-initial.ensures in
-    (omega arith, ⊎_elim (λ w. rw w.2 (from_here h g w.0.taken)) (λ w. rw w.1 (from_past h g w.0.left)) c.if1.branch))
-    (λ c. from_all (omega arith) (omega arith) c.before.loop.invariant.1))
+    let h = c.loop-i.invariant.1 in
+    let g = c.is_initial.ensures in
+    (omega arith, ⊎_elim (λ w. rw w.2 (from_here h g w.0.taken)) (λ w. rw w.1 (from_past h g w.0.left)) c.if-is_initial.branch))
+    (λ c. from_all (omega arith) (omega arith) c.loop-i.invariant.1))

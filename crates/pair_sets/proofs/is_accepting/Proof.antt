@@ -8,9 +8,9 @@ pub is_accepting_spec : {M : Type 1} → statement M
 is_accepting_spec =
     tie.close
     (tie.spec
-    (λ c κs. let p = c.before.before.requires in (omega (arith, p.1.0, (good_storable _ p.0).states), p.1.1))
+    (λ c κs. let p = c.requires in (omega (arith, p.1.0, (good_storable _ p.0).states), p.1.1))
     (λ c κs. tt)
     (λ c.
-    let found = c.meets-final.ensures in
-    let same = finished_iff (omega (arith, c.before.before.before.before.requires.1.0)) c.before.from-initial.ensures in
+    let found = c.meets_final.ensures in
+    let same = finished_iff (omega (arith, c.requires.1.0)) c.from_initial.ensures in
     (λ e. same.0 (found.0 e), λ w. found.1 (same.1 w))))

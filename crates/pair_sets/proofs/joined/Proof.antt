@@ -20,4 +20,4 @@ joined_spec =
     (λ c.
     let s = c.before.before.before.before.before.before.before in
     joined_links s.requires.1.1.1.0 s.requires.1.1.1.1 s.requires.1.1.0.0
-    c.before.before.before.together.ensures c.before.before.links.ensures c.join-lent.ensures))
+    c.together-halves.ensures c.links-through.ensures c.join_lent.ensures))

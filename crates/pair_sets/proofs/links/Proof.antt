@@ -10,23 +10,23 @@ use Rattle.pair_sets.proofs.Closing.{row_linked, row_left, linked_low}
 use Rattle.pair_sets.proofs.links.Statement.{statement}
 use Rattle.pair_sets.proofs.links.Tie as tie
 
-abbrev invariant-loop : tie.invariant-loop
-invariant-loop table states from halves opener inside closer r₀ q₀ r q = (q ≤ states) × Built (LinkedFrom (parse table) halves opener inside closer) q r
+abbrev invariant-loop-q : tie.invariant-loop-q
+invariant-loop-q table states from halves opener inside closer r₀ q₀ r q = (q ≤ states) × Built (LinkedFrom (parse table) halves opener inside closer) q r
 
-abbrev decreases-loop : tie.decreases-loop
-decreases-loop table states from halves opener inside closer r₀ q₀ r q = states - q
+abbrev decreases-loop-q : tie.decreases-loop-q
+decreases-loop-q table states from halves opener inside closer r₀ q₀ r q = states - q
 
-low : (c : tie.In-loop invariant-loop decreases-loop) → c.before.loop.q < 64
+low : (c : tie.In-loop-q invariant-loop-q decreases-loop-q) → c.loop-q.q < 64
 low c =
     let s = c.before.before.before.before in
-    omega (arith, (good_storable s.args.table.now s.requires.0.0).states, s.requires.0.1.0, c.loop-test.true)
+    omega (arith, (good_storable s.args.table.now s.requires.0.0).states, s.requires.0.1.0, c.loop-q-test.true)
 
 pub links_spec : {M : Type 1} → statement M
 links_spec =
     tie.close
     (tie.spec
-    invariant-loop
-    decreases-loop
+    invariant-loop-q
+    decreases-loop-q
     (λ c. (omega arith, built_none _))
     low
     (λ c κs. let s = c.before.before.before.before.before in ((s.requires.0.0, (low c.before, s.requires.0.1.1)), s.requires.1))
@@ -36,9 +36,9 @@ links_spec =
     (λ c. omega arith)
     (λ c. (
       omega arith,
-      ⊎_elim (λ w. rw w.2 (built_more w.1.ok (low c.before) c.before.before.loop.invariant.1 (row_linked w.0.taken w.1.ensures)))
-          (λ w. rw w.1 (built_skip (row_left w.0.left) c.before.before.loop.invariant.1)) c.if1.branch,
+      ⊎_elim (λ w. rw w.2 (built_more w.1.ok (low c.before) c.loop-q.invariant.1 (row_linked w.0.taken w.1.ensures)))
+          (λ w. rw w.1 (built_skip (row_left w.0.left) c.loop-q.invariant.1)) c.if-halves-q-eq1.branch,
     ))
     (λ c.
     let s = c.before.before.before.before in
-    built_all {m = state_count (parse s.args.table.now)} (omega (arith, s.requires.0.1.0)) (λ q k e. linked_low _ s.requires.0.0 e) c.before.loop.invariant.1))
+    built_all {m = state_count (parse s.args.table.now)} (omega (arith, s.requires.0.1.0)) (λ q k e. linked_low _ s.requires.0.0 e) c.loop-q.invariant.1))

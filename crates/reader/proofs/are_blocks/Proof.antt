@@ -12,24 +12,24 @@ use Rattle.reader.proofs.Numbers.{deepest_is, state_size_lem, block_place_lem}
 use Rattle.reader.proofs.are_blocks.Statement.{statement}
 use Rattle.reader.proofs.are_blocks.Tie as tie
 
-abbrev invariant-loop : tie.invariant-loop
-invariant-loop table states state depth ok₀ d₀ ok d = (d ≤ depth) × (all? (block? (parse table) state) d ≡ ok)
+abbrev invariant-loop-d : tie.invariant-loop-d
+invariant-loop-d table states state depth ok₀ d₀ ok d = (d ≤ depth) × (all? (block? (parse table) state) d ≡ ok)
 
-abbrev decreases-loop : tie.decreases-loop
-decreases-loop table states state depth ok₀ d₀ ok d = depth - d
+abbrev decreases-loop-d : tie.decreases-loop-d
+decreases-loop-d table states state depth ok₀ d₀ ok d = depth - d
 
 -- The block's words are there.
-low : (c : tie.After-place invariant-loop decreases-loop) → c.place.result + 65 ≤ 2148
+low : (c : tie.After-place-at invariant-loop-d decreases-loop-d) → c.place-at.result + 65 ≤ 2148
 low c =
     let l = c.before in
-    omega (arith, c.place.ensures.0, block_place_lem l.before.loop.d, deepest_is, l.loop-test.true, l.before.before.before.before.requires.1.1.1)
+    omega (arith, c.place-at.ensures.0, block_place_lem l.loop-d.d, deepest_is, l.loop-d-test.true, l.requires.1.1.1)
 
 pub are_blocks_spec : {M : Type 1} → statement M
 are_blocks_spec =
     tie.close
     (tie.spec
-    invariant-loop
-    decreases-loop
+    invariant-loop-d
+    decreases-loop-d
     (λ c. (omega arith, all_none _))
     (λ c κs. omega arith)
     (λ c. omega (arith, low c))
@@ -43,7 +43,7 @@ are_blocks_spec =
     (λ c. omega (arith, low c.before.before, state_size_lem))
     (λ c κs.
     let d = c.before.before.before in
-    let at = d.place.result in
+    let at = d.place-at.result in
     let f = d.before.before.before.before.before in
     let l = low d in (
       omega (arith, length_part f.args.state.now (at + 1) ((at + 65) - (at + 1)) (omega (arith, l, f.requires.1.1.0, state_size_lem))),
@@ -54,7 +54,7 @@ are_blocks_spec =
     (λ c.
     let d = c.before.before.before.before in
     let l = d.before in (
-      omega (arith, l.loop-test.true),
-      blocks_more _ _ _ l.before.before.before.before.requires.1.0 d.place.ensures.0 l.before.loop.invariant.1 c.before.before.is-letter-word.ensures c.are-rows.ensures,
+      omega (arith, l.loop-d-test.true),
+      blocks_more _ _ _ l.requires.1.0 d.place-at.ensures.0 l.loop-d.invariant.1 c.is_letter_word.ensures c.are_rows.ensures,
     ))
-    (λ c. all_at _ _ _ c.before.loop.invariant.0 c.loop-test.false c.before.loop.invariant.1))
+    (λ c. all_at _ _ _ c.loop-d.invariant.0 c.loop-d-test.false c.loop-d.invariant.1))

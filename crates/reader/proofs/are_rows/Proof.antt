@@ -10,4 +10,4 @@ are_rows_spec =
     (λ c κs. omega arith)
     (λ c κs. omega arith)
     (λ c κs. omega arith)
-    (λ c. rw (← c.is_below.ensures) (rows_gathered (omega arith) c.before.before.together.ensures c.before.together2.ensures)))
+    (λ c. rw (← c.is_below.ensures) (rows_gathered (omega arith) c.together-named.ensures c.together-past.ensures)))

@@ -9,8 +9,8 @@ use Rattle.reader.proofs.begin.Statement.{statement}
 use Rattle.reader.proofs.begin.Tie as tie
 
 -- What the counts that were given say of the table.
-counted : (c : tie.After-counts) → Counted c.before.before.before.before.before.args.table.now c.counts.given.0.0
-counted c = when_good _ _ (sym (ap checked_as c.counts.given.1) ∙ c.before.before.check.ensures)
+counted : (c : tie.In-Good-2) → Counted c.args.table.now c.counts-1.given.0.0
+counted c = when_good _ _ (sym (ap checked_as c.counts-1.given.1) ∙ c.check.ensures)
 
 pub begin_spec : {M : Type 1} → statement M
 begin_spec =
@@ -19,15 +19,15 @@ begin_spec =
     (λ c κs. tt)
     (λ c. search rules)
     (λ c. search rules)
-    (λ c. meets_short _ _ (counted c.before.before).good _ (rw state_size_lem c.if1.true))
-    (λ c κs. let w = counted c.before.before.before in (w.good, (w.states, rw state_size_lem c.before.if1.false)))
+    (λ c. meets_short _ _ (counted c.before.before).good _ (rw state_size_lem c.if-state-lt-STATE.true))
+    (λ c κs. let w = counted c.before.before.before in (w.good, (w.states, rw state_size_lem c.if-state-lt-STATE.false)))
     (λ c κs. tt)
     (λ c.
     let d = c.before in
-    let w = when_refused _ _ (sym (ap checked_as d.number.given.1) ∙ d.before.before.check.ensures) in
+    let w = when_refused _ _ (sym (ap checked_as d.number-1.given.1) ∙ d.check.ensures) in
     meets_no_table _ _ _ w.0 w.1)
     (λ c. omega arith)
     (λ c.
     let d = c.before.before.before in
     let e = d.before.before in
-    meets_begun _ _ (counted e.before.before).good (rw state_size_lem e.if1.false) d.start.ensures.0 c.heard.ensures d.start.ensures.1))
+    meets_begun _ _ (counted e.before.before).good (rw state_size_lem e.if-state-lt-STATE.false) d.start-head.ensures.0 c.heard.ensures d.start-head.ensures.1))

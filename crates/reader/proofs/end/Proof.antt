@@ -20,22 +20,22 @@ use Rattle.reader.proofs.end.Statement.{statement}
 use Rattle.reader.proofs.end.Tie as tie
 
 -- Where nothing is open the test of the rows decides.
-tested : (c : tie.After-is-accepting) → let a = c.before.before.before.before.before.before.before.before.args in
-    finish_heard (parse a.table.now) (state_with a.head a.state.now) ≡ cond c.is-accepting.result accepted unfinished
+tested : (c : tie.After-is_accepting) → let a = c.args in
+    finish_heard (parse a.table.now) (state_with a.head a.state.now) ≡ cond c.is_accepting.result accepted unfinished
 tested c =
     let e = c.before.before.before in
-    let a = e.before.before.before.before.before.args in
-    let pre = e.before.before.before.before.before.requires in
-    end_flat _ _ _ (good_storable a.table.now pre.0.0).states pre.1 e.before.before.if1.false e.if2.false c.is-accepting.result
-    (subst (λ (r : List ℕ). T c.is-accepting.result ↔ FinishedBlock (automaton (parse a.table.now)) (Holds r)) (lent_rows a.state.now 0 c.before.before.place.ensures.0)
-    c.is-accepting.ensures)
+    let a = e.args in
+    let pre = e.requires in
+    end_flat _ _ _ (good_storable a.table.now pre.0.0).states pre.1 e.if-head.false e.if-head-ne0.false c.is_accepting.result
+    (subst (λ (r : List ℕ). T c.is_accepting.result ↔ FinishedBlock (automaton (parse a.table.now)) (Holds r)) (lent_rows a.state.now 0 c.place-top.ensures.0)
+    c.is_accepting.ensures)
 
 pub end_spec : {M : Type 1} → statement M
 end_spec =
     tie.close
     (tie.spec
-    (λ c. ap answered (sym (end_stopped _ _ _ c.if1.true)))
-    (λ c. ap answered (sym (end_deep _ _ _ c.before.before.if1.false c.if2.true)))
+    (λ c. ap answered (sym (end_stopped _ _ _ c.if-head.true)))
+    (λ c. ap answered (sym (end_deep _ _ _ c.if-head.false c.if-head-ne0.true)))
     (λ c κs. omega arith)
     (λ c. omega (arith, state_size_lem))
     (λ c. omega (arith, state_size_lem))
@@ -43,6 +43,6 @@ end_spec =
     (λ c. omega arith)
     (λ c. omega (arith, state_size_lem))
     (λ c. omega (arith, state_size_lem, block_place_lem 0))
-    (λ c κs. let b = c.before.before.before.before.before.before.before in (b.requires.0.0, (b.requires.0.1, omega (arith, c.is-accepting-arg.given.1))))
-    (λ c. ap answered (sym (tested c.before ∙ rw c.if3.true)))
-    (λ c. ap answered (sym (tested c.before ∙ rw c.if3.false))))
+    (λ c κs. let b = c.before.before.before.before.before.before.before in (b.requires.0.0, (b.requires.0.1, omega (arith, c.is_accepting-arg-1.given.1))))
+    (λ c. ap answered (sym (tested c.before ∙ rw c.if-is_accepting.true)))
+    (λ c. ap answered (sym (tested c.before ∙ rw c.if-is_accepting.false))))

@@ -15,14 +15,14 @@ use Rattle.reader.proofs.finish.Statement.{statement}
 use Rattle.reader.proofs.finish.Tie as tie
 
 -- What the counts that were given say of the table.
-counted : (c : tie.After-counts) → Counted c.before.before.before.before.before.args.table.now c.counts.given.0.0
-counted c = when_good _ _ (sym (ap checked_as c.counts.given.1) ∙ c.before.before.check.ensures)
+counted : (c : tie.In-Good-2) → Counted c.args.table.now c.counts-1.given.0.0
+counted c = when_good _ _ (sym (ap checked_as c.counts-1.given.1) ∙ c.check.ensures)
 
-long : (c : tie.Else1) → state_size ≤ length c.before.before.before.before.before.before.before.args.state.now
-long c = rw state_size_lem c.if1.false
+long : (c : tie.Else-state-lt-STATE) → state_size ≤ length c.args.state.now
+long c = rw state_size_lem c.if-state-lt-STATE.false
 
-legal : (c : tie.Else2) → let a = c.before.before.before.before.before.before.before.before.before.args in legal? (parse a.table.now) a.state.now ≡ true
-legal c = c.before.is-legal.ensures ∙ not-false _ c.if2.false
+legal : (c : tie.Else-not-is_legal) → let a = c.args in legal? (parse a.table.now) a.state.now ≡ true
+legal c = c.is_legal.ensures ∙ not-false _ c.if-not-is_legal.false
 
 pub finish_spec : {M : Type 1} → statement M
 finish_spec =
@@ -31,11 +31,11 @@ finish_spec =
     (λ c κs. tt)
     (λ c. search rules)
     (λ c. search rules)
-    (λ c. answers _ c.before.before.before.before.before.before.before.args.state.now (meets_short _ _ (counted c.before.before).good _ (rw state_size_lem c.if1.true)))
+    (λ c. answers _ c.args.state.now (meets_short _ _ (counted c.before.before).good _ (rw state_size_lem c.if-state-lt-STATE.true)))
     (λ c κs. let w = counted c.before.before in (w.good, (w.states, long c)))
     (λ c.
     let e = c.before.before in
-    answers _ _ (meets_illegal _ _ (counted e.before.before).good (long e) _ (c.before.is-legal.ensures ∙ not-true _ c.if2.true)))
+    answers _ _ (meets_illegal _ _ (counted e.before.before).good (long e) _ (c.is_legal.ensures ∙ not-true _ c.if-not-is_legal.true)))
     (λ c κs. (long c.before.before, legal_leading _ _ (legal c)))
     (λ c κs.
     let e = c.before.before.before in
@@ -43,8 +43,8 @@ finish_spec =
     ((w.good, w.states), head_ready _ _ (legal c.before) (long e) c.head_in.ensures))
     (λ c.
     let d = c.before in
-    let w = when_refused _ _ (sym (ap checked_as d.number.given.1) ∙ d.before.before.check.ensures) in
-    answers _ d.before.before.before.before.before.args.state.now (meets_no_table _ _ _ w.0 w.1))
+    let w = when_refused _ _ (sym (ap checked_as d.number-1.given.1) ∙ d.check.ensures) in
+    answers _ d.args.state.now (meets_no_table _ _ _ w.0 w.1))
     (λ c.
     let d = c.before in
     let e = d.before.before.before in

@@ -10,5 +10,5 @@ is_below_spec =
     tie.close
     (tie.spec
     (λ c. omega arith)
-    (λ c. shifted_out c.before.args.x c.before.args.n)
-    (λ c. let e : c.before.args.n ≡ 64 = omega arith in rw e (lt-ltb _ _ c.before.ranges.x.fits)))
+    (λ c. shifted_out c.args.x c.args.n)
+    (λ c. let e : c.args.n ≡ 64 = omega arith in rw e (lt-ltb _ _ c.ranges.x.fits)))

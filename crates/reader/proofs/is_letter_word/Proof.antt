@@ -13,6 +13,6 @@ is_letter_word_spec =
     (tie.spec
     (λ c κs. tt)
     (λ c. omega arith)
-    (λ c. rw c.if1.true)
-    (λ c. word_open _ _ _ c.before.before.before.if1.false (sym (ap kind_as c.enum_told.given.1) ∙ c.before.before.kind_at.ensures))
-    (λ c. word_other _ _ _ c.before.before.if1.false (λ e. not_open c.before.kind_at.result c.match.keys2 (c.before.kind_at.ensures ∙ e))))
+    (λ c. rw c.if-depth-eq0.true)
+    (λ c. word_open _ _ _ c.if-depth-eq0.false (sym (ap kind_as c.enum_told-1.given.1) ∙ c.kind_at.ensures))
+    (λ c. word_other _ _ _ c.if-depth-eq0.false (λ e. not_open c.kind_at.result c.match.keys2 (c.kind_at.ensures ∙ e))))

@@ -26,13 +26,13 @@ letter_verdict_spec =
     (λ c κs. tt)
     (λ c. omega arith)
     (λ c words.
-    let a = c.before.before.before.before.before.before.before.before.before.args in
+    let a = c.args in
     let known : a.letter < letter_count (parse a.table.now) = omega arith in
-    let kind = sym (kind_there _ _ known) ∙ sym c.before.before.kind_at.ensures ∙ ap kind_as c.enum_told.given.1 in
+    let kind = sym (kind_there _ _ known) ∙ sym c.kind_at.ensures ∙ ap kind_as c.enum_told-1.given.1 in
     reason_verdict _ _ _ (open_too_deep known (omega (arith, longest_log_lem)) (some-injective _ _ kind) (omega (arith, deepest_is, head_depth a.head words))))
     (λ c words.
-    let a = c.before.before.before.before.before.before.before.before.args in
+    let a = c.args in
     let known : a.letter < letter_count (parse a.table.now) = omega arith in
     verdict_none _ _ _ known (omega (arith, longest_log_lem))
-    (λ k. absurd (not_open c.before.kind_at.result c.match.keys2 (c.before.kind_at.ensures ∙ kind_there _ _ known ∙ ap some k))))
-    (λ c words. verdict_none _ _ _ (omega arith) (omega (arith, longest_log_lem)) (λ k. omega (arith, deepest_is, head_depth c.before.before.before.before.before.before.args.head words))))
+    (λ k. absurd (not_open c.kind_at.result c.match.keys2 (c.kind_at.ensures ∙ kind_there _ _ known ∙ ap some k))))
+    (λ c words. verdict_none _ _ _ (omega arith) (omega (arith, longest_log_lem)) (λ k. omega (arith, deepest_is, head_depth c.args.head words))))

@@ -13,45 +13,45 @@ use Rattle.reader.proofs.StepParts.{opens_none, opens_some, written_at, written_
 use Rattle.reader.proofs.open.Statement.{statement}
 use Rattle.reader.proofs.open.Tie as tie
 
-abbrev begin : tie.After-together → tie.Start
+abbrev begin : tie.After-together-halves → tie.Start
 begin c = c.before.before.before.before.before.before
 
-halves : (c : tie.After-together) → let s = (begin c).args in
-    DigitsExactly c.together.result (InSome (rows_in s.state.now s.head.depth) 0 s.states)
-halves c = rw (lent_rows (begin c).args.state.now (begin c).args.head.depth c.before.before.before.place.ensures.0) at c.together.ensures
+halves : (c : tie.After-together-halves) → let s = (begin c).args in
+    DigitsExactly c.together-halves.result (InSome (rows_in s.state-1.now s.head.depth) 0 s.states)
+halves c = rw (lent_rows (begin c).args.state.now (begin c).args.head.depth c.place-top.ensures.0) at c.together-halves.ensures
 
-reached : (c : tie.After-joined-row) → let s = (begin c.before.before).args in
-    DigitsExactly c.joined-row.result (Reached c.before.before.together.result (letter_rows s.moves.now s.letter))
-reached c = let s = (begin c.before.before).args in rw (lent_letter s.moves.now s.letter) at c.joined-row.ensures
+reached : (c : tie.After-joined_row-reached) → let s = (begin c.before.before).args in
+    DigitsExactly c.joined_row-reached.result (Reached c.together-halves.result (letter_rows s.moves.now s.letter))
+reached c = let s = (begin c.before.before).args in rw (lent_letter s.moves.now s.letter) at c.joined_row-reached.ensures
 
-room : (c : tie.After-place2) → c.place2.result + 65 ≤ length (begin c.before.before.before.before.before).args.state.now
+room : (c : tie.After-place-next) → c.place-next.result + 65 ≤ length (begin c.before.before.before.before.before).args.state.now
 room c =
     let s = begin c.before.before.before.before.before in
-    omega (arith, state_size_lem, deepest_is, block_place_lem (s.args.head.depth + 1), c.place2.ensures.0, s.pre.0.1.1.0, s.pre.1.0)
+    omega (arith, state_size_lem, deepest_is, block_place_lem (s.args.head.depth + 1), c.place-next.ensures.0, s.requires.0.1.1.0, s.requires.1.0)
 
 written : (c : tie.After-store) → let s = (begin c.before.before.before.before.before.before.before.before.before).args in
-    Opens s.letter s.head.depth c.before.before.diagonal.result s.state.now c.store.new.0
+    Opens s.letter s.head.depth c.diagonal.result s.state-1.now c.store.new.0
 written c =
     let k = c.before.before.before.before in
     let d = (begin k.before.before.before.before.before).args.head.depth in
-    written_at (omega (arith, k.place2.ensures.0, block_place_lem (d + 1), block_place_lem (suc d))) refl
-    (written_block c.before.before.diagonal.result (omega (arith, room k)) c.store.ensures)
+    written_at (omega (arith, k.place-next.ensures.0, block_place_lem (d + 1), block_place_lem (suc d))) refl
+    (written_block c.diagonal.result (omega (arith, room k)) c.store.ensures)
 
 pub open_spec : {M : Type 1} → statement M
 open_spec =
     tie.close
     (tie.spec
-    (λ c κs. omega (arith, c.before.before.requires))
+    (λ c κs. omega (arith, c.requires))
     (λ c. omega arith)
     (λ c. omega arith)
     (λ c. omega arith)
     (λ c. omega arith)
     (λ c. omega arith)
     (λ c. omega arith)
-    (λ c. omega (arith, state_size_lem, deepest_is, block_place_lem c.before.before.before.before.args.head.depth))
+    (λ c. omega (arith, state_size_lem, deepest_is, block_place_lem c.args.head.depth))
     (λ c κs.
     let s = c.before.before.before.before.before in
-    rw (lent_rows s.args.state.now s.args.head.depth c.before.before.place.ensures.0)
+    rw (lent_rows s.args.state.now s.args.head.depth c.place-top.ensures.0)
     (omega arith, omega (arith, s.requires.0.0, s.requires.1.1.0.rows)))
     (λ c. omega arith)
     (λ c. omega arith)
@@ -60,20 +60,20 @@ open_spec =
     (λ c. omega arith)
     (λ c κs.
     let s = begin c.before in
-    rw (lent_letter s.args.moves.now s.args.letter) (omega (arith, letter_long s.args.moves.now s.pre.1.1.1 s.pre.0.1.0)))
+    rw (lent_letter s.args.moves.now s.args.letter) (omega (arith, letter_long s.args.moves.now s.requires.1.1.1 s.requires.0.1.0)))
     (λ c κs. tt)
     (λ c. omega arith)
     (λ c.
     let r = c.before.before in
     let g = r.before.before in
-    opens_none (begin g).requires.1.1.0 (halves g) (reached r) (omega (arith, c.before.if1.true)) c.stop.ensures)
+    opens_none (begin g).requires.1.1.0 (halves g) (reached r) (omega (arith, c.if-reached-eq0.true)) c.stop.ensures)
     (λ c. omega (arith, deepest_is, (begin c.before.before.before.before).requires.0.1.1.0))
     (λ c κs. omega (arith, (begin c.before.before.before.before).requires.0.1.1.0))
     (λ c. omega arith)
     (λ c. omega (arith, room c))
     (λ c. omega arith)
     (λ c κs. tt)
-    (λ c κs. (rw length-set (omega (arith, room c.before.before.before)), owned _ _ c.before.diagonal.type-inv))
+    (λ c κs. (rw length-set (omega (arith, room c.before.before.before)), owned _ _ c.diagonal.type_inv))
     (λ c κs. let p = (begin c.before.before.before.before.before.before.before.before.before.before.before).requires.0 in (p.1.1.1, p.1.1.0))
     (λ c. (written c.before.before.before).long)
     (λ c.
@@ -81,5 +81,5 @@ open_spec =
     let k = d.before.before in
     let r = k.before.before.before in
     let g = r.before.before in
-    opens_some (begin g).requires.1.1.0 (halves g) (reached r) k.before.before.if1.false (owned _ _ d.diagonal.type-inv) d.diagonal.ensures
+    opens_some (begin g).requires.1.1.0 (halves g) (reached r) k.if-reached-eq0.false (owned _ _ d.diagonal.type_inv) d.diagonal.ensures
     (written c.before.before.before) c.«open».ensures))

@@ -14,4 +14,4 @@ put_head_spec =
     (λ c. simp length-set (omega (arith, state_size_lem)))
     (λ c. simp length-set (omega (arith, state_size_lem)))
     (λ c. simp length-set)
-    (λ c. head_written _ _ (omega (arith, state_size_lem)) (⊎_elim (λ w. rw (w.0.taken, w.1)) (λ w. rw (w.0.left, w.1)) c.if1.branch)))
+    (λ c. head_written _ _ (omega (arith, state_size_lem)) (⊎_elim (λ w. rw (w.0.taken, w.1)) (λ w. rw (w.0.left, w.1)) c.if-head.branch)))

@@ -16,7 +16,7 @@ use Rattle.reader.proofs.Verdicts.{Takes, takes}
 use Rattle.reader.proofs.step.Statement.{statement}
 use Rattle.reader.proofs.step.Tie as tie
 
-abbrev begin : tie.After-kind-at → tie.Start
+abbrev begin : tie.After-kind_at → tie.Start
 begin c = c.before.before.before.before
 
 taken : (c : tie.Start) → Takes (parse c.args.table.now) c.args.head c.args.letter
@@ -28,14 +28,14 @@ few c = omega (arith, (taken c).own, (good_storable _ c.requires.0.0).letters)
 small : (c : tie.Start) → state_count (parse c.args.table.now) ≤ 64
 small c = (good_storable _ c.requires.0.0).states
 
-told : (c : tie.After-kind-at) {kind : Kind} → some kind ≡ kind_as c.kind_at.result → kind_in (parse (begin c).args.table.now) (begin c).args.letter ≡ kind
+told : (c : tie.After-kind_at) {kind : Kind} → some kind ≡ kind_as c.kind_at.result → kind_in (parse (begin c).args.table.now) (begin c).args.letter ≡ kind
 told c e = told_kind _ _ (e ∙ c.kind_at.ensures)
 
-opens : (c : tie.After-enum-told2) → kind_in (parse (begin c.before.before).args.table.now) (begin c.before.before).args.letter ≡ opening
-opens c = told c.before.before (sym (ap kind_as c.enum-told2.given.1))
+opens : (c : tie.In-Open) → kind_in (parse (begin c.before.before).args.table.now) (begin c.before.before).args.letter ≡ opening
+opens c = told c.before.before (sym (ap kind_as c.enum_told-in-Open-1.given.1))
 
-closes : (c : tie.After-enum-told3) → kind_in (parse (begin c.before.before).args.table.now) (begin c.before.before).args.letter ≡ closing
-closes c = told c.before.before (sym (ap kind_as c.enum-told3.given.1))
+closes : (c : tie.In-Close) → kind_in (parse (begin c.before.before).args.table.now) (begin c.before.before).args.letter ≡ closing
+closes c = told c.before.before (sym (ap kind_as c.enum_told-in-Close-1.given.1))
 
 rows : (c : tie.Start) → RowsBelow c.args.states (rows_in c.args.state.now c.args.head.depth)
 rows c = ready_states _ _ c.requires.1.1.0 (small c) c.requires.0.1 _ (omega arith)
@@ -48,38 +48,38 @@ step_spec =
     (λ c. omega arith)
     (λ c κs.
     let s = begin c.before.before.before in
-    let r = s.pre.1.1.0 in
-    ((omega (arith, small s, s.pre.0.1), (few s, (r.low, (taken s).more))), (r.long, (rows s, s.pre.1.0.0.long))))
+    let r = s.requires.1.1.0 in
+    ((omega (arith, small s, s.requires.0.1), (few s, (r.low, (taken s).more))), (r.long, (rows s, s.requires.1.0.0.long))))
     (λ c. omega arith)
     (λ c κs.
     let s = begin c.before.before.before in
-    ((omega (arith, small s, s.pre.0.1), (few s, ((taken s).low (opens c.before), (taken s).more))), (s.pre.1.1.0.long, (rows s, s.pre.1.0.0.long))))
+    ((omega (arith, small s, s.requires.0.1), (few s, ((taken s).low (opens c.before), (taken s).more))), (s.requires.1.1.0.long, (rows s, s.requires.1.0.0.long))))
     (λ c. omega arith)
     (λ c κs.
     let s = begin c.before.before.before in
-    ((s.pre.0.0, (s.pre.0.1, s.pre.1.0.1)), (s.pre.1.1.0, (closes c.before, (taken s).more))))
+    ((s.requires.0.0, (s.requires.0.1, s.requires.1.0.1)), (s.requires.1.1.0, (closes c.before, (taken s).more))))
     (λ c. omega arith)
     (λ c κs. tt)
     (λ c. omega arith)
     (λ c.
     let d = c.before.before.before.before in
     let s = begin d.before.before in
-    let p = s.pre in
+    let p = s.requires in
     plain_step _ (good_table _ p.0.0) (small s) _ _ p.1.1.0 p.1.1.1.0 p.1.0.0 (few s)
-    (told d.before.before (sym (ap kind_as d.enum_told.given.1))) c.before.before.plain.ensures)
+    (told d.before.before (sym (ap kind_as d.enum_told-1.given.1))) c.plain.ensures)
     (λ c. omega arith)
     (λ c.
     let d = c.before.before.before.before in
     let s = begin d.before.before in
-    let p = s.pre in
+    let p = s.requires in
     open_step _ (good_table _ p.0.0) (small s) _ _ p.1.1.0 p.1.1.1.0 p.1.0.0 (few s) (taken s).own (opens d) ((taken s).low (opens d))
     c.before.before.«open».ensures)
     (λ c. omega arith)
     (λ c.
     let d = c.before.before.before.before in
     let s = begin d.before.before in
-    let p = s.pre in
-    close_step _ (good_table _ p.0.0) (small s) _ _ p.1.1.0 p.1.1.1.0 (closes d) c.before.before.close.ensures)
+    let p = s.requires in
+    close_step _ (good_table _ p.0.0) (small s) _ _ p.1.1.0 p.1.1.1.0 (closes d) c.close.ensures)
     (λ c.
     let k = c.before.before.before in
-    absurd (told_none _ (taken (begin k)).own (sym (ap kind_as c.before.enum-told4.given.1) ∙ k.kind_at.ensures))))
+    absurd (told_none _ (taken (begin k)).own (sym (ap kind_as c.enum_told-in-NoLetter-1.given.1) ∙ k.kind_at.ensures))))

@@ -6,26 +6,26 @@ use Rattle.relation.proofs.Relations.{Built, built_none, built_more, built_all, 
 use Rattle.relation.proofs.both.Statement.{statement}
 use Rattle.relation.proofs.both.Tie as tie
 
-abbrev invariant-loop : tie.invariant-loop
-invariant-loop r s t₀ j₀ t j = (j ≤ 64) × Built (Both r s) j t
+abbrev invariant-loop-j : tie.invariant-loop-j
+invariant-loop-j r s t₀ j₀ t j = (j ≤ 64) × Built (Both r s) j t
 
-abbrev decreases-loop : tie.decreases-loop
-decreases-loop r s t₀ j₀ t j = 64 - j
+abbrev decreases-loop-j : tie.decreases-loop-j
+decreases-loop-j r s t₀ j₀ t j = 64 - j
 
 pub both_spec : {M : Type 1} → statement M
 both_spec =
     tie.close
     (tie.spec
-    invariant-loop
-    decreases-loop
+    invariant-loop-j
+    decreases-loop-j
     (λ c. (omega arith, built_none _))
     (λ c. omega arith) (λ c. omega arith) (λ c. omega arith) (λ c. omega arith)
     (λ c. omega arith) (λ c. omega arith) (λ c. omega arith) (λ c. omega arith)
     (λ c.
-    let g = c.before.before.well-formed in
-    let a = c.before.before.args in
-    let fits = both_fits {r = a.t1} a.t2 (owned _ _ g.0) c.before.loop.j in
-    (omega arith, built_more fits c.loop-test.true c.before.loop.invariant.1 (both_row a.t1 a.t2 c.before.loop.j)))
+    let g = c.well_formed in
+    let a = c.args in
+    let fits = both_fits {r = a.t1} a.t2 (owned _ _ g.0) c.loop-j.j in
+    (omega arith, built_more fits c.loop-j-test.true c.loop-j.invariant.1 (both_row a.t1 a.t2 c.loop-j.j)))
     (λ c.
-    let g = c.before.before.well-formed in
-    built_all (omega arith) (λ j k e. (holds_inside (owned _ _ g.0) e.first).0) c.before.loop.invariant.1))
+    let g = c.well_formed in
+    built_all (omega arith) (λ j k e. (holds_inside (owned _ _ g.0) e.first).0) c.loop-j.invariant.1))

@@ -7,23 +7,23 @@ use Rattle.relation.proofs.Relations.{Built, built_none, built_more, built_all, 
 use Rattle.relation.proofs.diagonal.Statement.{statement}
 use Rattle.relation.proofs.diagonal.Tie as tie
 
-abbrev invariant-loop : tie.invariant-loop
-invariant-loop x t₀ j₀ t j = (j ≤ 64) × Built (Diagonal x) j t
+abbrev invariant-loop-j : tie.invariant-loop-j
+invariant-loop-j x t₀ j₀ t j = (j ≤ 64) × Built (Diagonal x) j t
 
-abbrev decreases-loop : tie.decreases-loop
-decreases-loop x t₀ j₀ t j = 64 - j
+abbrev decreases-loop-j : tie.decreases-loop-j
+decreases-loop-j x t₀ j₀ t j = 64 - j
 
 pub diagonal_spec : {M : Type 1} → statement M
 diagonal_spec =
     tie.close
     (tie.spec
-    invariant-loop
-    decreases-loop
+    invariant-loop-j
+    decreases-loop-j
     (λ c. (omega arith, built_none _))
     (λ c. omega arith)
     (λ c. omega arith)
     (λ c. omega arith)
     (λ c. omega arith)
     (λ c. omega arith)
-    (λ c. (omega arith, built_more (omega (arith, and_le_l c.before.before.args.x (1 * 2 ^ c.before.loop.j % 2 ^ 64), c.before.before.ranges.x.fits)) (omega arith) c.before.loop.invariant.1 (diagonal_row _ (omega arith))))
-    (λ c. built_all (omega arith) (λ j k e. bit_inside 64 _ j c.before.before.ranges.x.fits e.digit) c.before.loop.invariant.1))
+    (λ c. (omega arith, built_more (omega (arith, and_le_l c.args.x (1 * 2 ^ c.loop-j.j % 2 ^ 64), c.ranges.x.fits)) (omega arith) c.loop-j.invariant.1 (diagonal_row _ (omega arith))))
+    (λ c. built_all (omega arith) (λ j k e. bit_inside 64 _ j c.ranges.x.fits e.digit) c.loop-j.invariant.1))

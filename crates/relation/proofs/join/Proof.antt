@@ -13,5 +13,5 @@ join_spec =
     (λ c. search rules)
     (λ c κs.
     let a = c.before.before in
-    (omega arith, (all_rows (owned _ _ a.well-formed.0), omega (arith, (owned a.args.t2 _ a.well-formed.1.0).rows))))
+    (omega arith, (all_rows (owned _ _ a.well_formed.0), omega (arith, (owned a.args.s _ a.well_formed.1.0).rows))))
     (λ c. search rules))

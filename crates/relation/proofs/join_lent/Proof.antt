@@ -6,18 +6,18 @@ use Rattle.relation.proofs.Walks.{joined_digits}
 use Rattle.relation.proofs.join_lent.Statement.{statement}
 use Rattle.relation.proofs.join_lent.Tie as tie
 
-abbrev invariant-loop : tie.invariant-loop
-invariant-loop r s count t₀ j₀ t j = (j ≤ count) × Built (Joined r s) j t
+abbrev invariant-loop-j : tie.invariant-loop-j
+invariant-loop-j r s count t₀ j₀ t j = (j ≤ count) × Built (Joined r s) j t
 
-abbrev decreases-loop : tie.decreases-loop
-decreases-loop r s count t₀ j₀ t j = count - j
+abbrev decreases-loop-j : tie.decreases-loop-j
+decreases-loop-j r s count t₀ j₀ t j = count - j
 
 pub join_lent_spec : {M : Type 1} → statement M
 join_lent_spec =
     tie.close
     (tie.spec
-    invariant-loop
-    decreases-loop
+    invariant-loop-j
+    decreases-loop-j
     (λ c. (omega arith, built_none _))
     (λ c. omega arith)
     (λ c. omega arith)
@@ -28,6 +28,6 @@ join_lent_spec =
     (λ c. omega arith)
     (λ c. (
       omega arith,
-      built_more c.joined-row.type-inv (omega arith) c.before.before.before.loop.invariant.1 (joined_digits c.joined-row.ensures),
+      built_more c.joined_row.type_inv (omega arith) c.loop-j.invariant.1 (joined_digits c.joined_row.ensures),
     ))
-    (λ c. built_all {m = c.before.before.before.before.args.count} (omega arith) (λ j k e. row_low c.before.before.before.before.requires.1.0 e.first) c.before.loop.invariant.1))
+    (λ c. built_all {m = c.args.count} (omega arith) (λ j k e. row_low c.requires.1.0 e.first) c.loop-j.invariant.1))

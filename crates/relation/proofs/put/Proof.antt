@@ -13,4 +13,4 @@ put_spec =
     (λ c. omega arith)
     (λ c. omega arith)
     (λ c. omega arith)
-    (λ c. with_pair (owned _ _ c.well-formed.0) c.requires.0 c.requires.1))
+    (λ c. with_pair (owned _ _ c.well_formed.0) c.requires.0 c.requires.1))

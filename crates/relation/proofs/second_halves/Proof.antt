@@ -11,4 +11,4 @@ second_halves_spec =
     (tie.spec
     (λ c. search rules)
     (λ c κs. search rules)
-    (λ c. gathered_all (omega arith) (owned _ _ c.before.before.well-formed.0) c.together.ensures))
+    (λ c. gathered_all (omega arith) (owned _ _ c.well_formed.0) c.together.ensures))

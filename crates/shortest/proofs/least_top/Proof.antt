@@ -8,28 +8,28 @@ use Rattle.shortest.proofs.Tops.{least_none, least_here, least_past, least_all}
 use Rattle.shortest.proofs.least_top.Statement.{statement}
 use Rattle.shortest.proofs.least_top.Tie as tie
 
-abbrev invariant-loop : tie.invariant-loop
-invariant-loop table states scratch top₀ i₀ top i = LeastTop (parse table) scratch i top
+abbrev invariant-loop-i : tie.invariant-loop-i
+invariant-loop-i table states scratch top₀ i₀ top i = LeastTop (parse table) scratch i top
 
-abbrev decreases-loop : tie.decreases-loop
-decreases-loop table states scratch top₀ i₀ top i = states - i
+abbrev decreases-loop-i : tie.decreases-loop-i
+decreases-loop-i table states scratch top₀ i₀ top i = states - i
 
 pub least_top_spec : {M : Type 1} → statement M
 least_top_spec =
     tie.close
     (tie.spec
-    invariant-loop
-    decreases-loop
+    invariant-loop-i
+    decreases-loop-i
     (λ c. omega arith)
     (λ c. least_none (omega (arith, over_is)))
     (λ c κs. tt)
-    (λ c κs. let p = c.before.before.before.before.before.before.requires in (omega (arith, p.1.0), p.1))
+    (λ c κs. let p = c.requires in (omega (arith, p.1.0), p.1))
     (λ c. omega arith)
     (λ c. omega arith)
     (λ c.
     let d = c.before.before.before in
-    let p = d.before.before.before.requires in
-    let h = d.loop.invariant in
-    let g = c.before.is-initial.ensures in
-    ⊎_elim (λ w. rw w.2 (least_here h g w.0.taken (omega (arith, p.0)) w.1.ensures)) (λ w. rw w.1 (least_past h g w.0.left)) c.if1.branch)
-    (λ c. least_all (omega arith) c.before.loop.invariant))
+    let p = d.requires in
+    let h = d.loop-i.invariant in
+    let g = c.is_initial.ensures in
+    ⊎_elim (λ w. rw w.2 (least_here h g w.0.taken (omega (arith, p.0)) w.1.ensures)) (λ w. rw w.1 (least_past h g w.0.left)) c.if-is_initial.branch)
+    (λ c. least_all (omega arith) c.loop-i.invariant))

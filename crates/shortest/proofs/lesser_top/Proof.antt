@@ -7,27 +7,27 @@ use Rattle.shortest.proofs.Tops.{lesser_none, lesser_here, lesser_past, lesser_a
 use Rattle.shortest.proofs.lesser_top.Statement.{statement}
 use Rattle.shortest.proofs.lesser_top.Tie as tie
 
-abbrev invariant-loop : tie.invariant-loop
-invariant-loop table states scratch i top₀ f₀ top f = LesserTop (parse table) scratch f i top₀ top
+abbrev invariant-loop-f : tie.invariant-loop-f
+invariant-loop-f table states scratch i top₀ f₀ top f = LesserTop (parse table) scratch f i top₀ top
 
-abbrev decreases-loop : tie.decreases-loop
-decreases-loop table states scratch i top₀ f₀ top f = states - f
+abbrev decreases-loop-f : tie.decreases-loop-f
+decreases-loop-f table states scratch i top₀ f₀ top f = states - f
 
 pub lesser_top_spec : {M : Type 1} → statement M
 lesser_top_spec =
     tie.close
     (tie.spec
-    invariant-loop
-    decreases-loop
+    invariant-loop-f
+    decreases-loop-f
     (λ c. lesser_none _ _)
-    (λ c κs. let p = c.before.before.before.before.requires in (p.0, (omega (arith, p.1.0), p.1.1)))
+    (λ c κs. let p = c.requires in (p.0, (omega (arith, p.1.0), p.1.1)))
     (λ c κs. tt)
     (λ c. omega arith)
     (λ c. omega arith)
     (λ c.
     let d = c.before.before.before in
-    let h = d.before.before.loop.invariant in
-    let v = d.length_at.ensures.0 in
-    let g = c.before.is-final.ensures in
-    ⊎_elim (λ w. rw w.1 (lesser_here h v g w.0.taken)) (λ w. rw w.1 (lesser_past h v g w.0.left)) c.if1.branch)
-    (λ c. lesser_all (omega arith) c.before.loop.invariant))
+    let h = d.loop-f.invariant in
+    let v = d.length_at-moves.ensures.0 in
+    let g = c.is_final.ensures in
+    ⊎_elim (λ w. rw w.1 (lesser_here h v g w.0.taken)) (λ w. rw w.1 (lesser_past h v g w.0.left)) c.if-moves-top.branch)
+    (λ c. lesser_all (omega arith) c.loop-f.invariant))

@@ -6,30 +6,30 @@ use Rattle.shortest.proofs.Finding.{ViaBelow, via_none, via_nearer, via_kept, vi
 use Rattle.shortest.proofs.nearest_via.Statement.{statement}
 use Rattle.shortest.proofs.nearest_via.Tie as tie
 
-abbrev invariant-loop : tie.invariant-loop
-invariant-loop scratch states p q whole best₀ least₀ r₀ best least r = ViaBelow states (length_in scratch) p q r best least
+abbrev invariant-loop-r : tie.invariant-loop-r
+invariant-loop-r scratch states p q whole best₀ least₀ r₀ best least r = ViaBelow states (length_in scratch) p q r best least
 
-abbrev decreases-loop : tie.decreases-loop
-decreases-loop scratch states p q whole best₀ least₀ r₀ best least r = states - r
+abbrev decreases-loop-r : tie.decreases-loop-r
+decreases-loop-r scratch states p q whole best₀ least₀ r₀ best least r = states - r
 
 pub nearest_via_spec : {M : Type 1} → statement M
 nearest_via_spec =
     tie.close
     (tie.spec
-    invariant-loop
-    decreases-loop
-    (λ c κs. let p = c.before.requires.0 in (p.1.0, (omega arith, p.1.1.1)))
-    (λ c. let p = c.before.before.requires in via_none p.0.1.1.0 p.1.0 p.1.1 c.length_at.ensures.0)
-    (λ c κs. let p = c.before.before.before.before.requires.0 in (p.1.0, (omega (arith, c.loop-test.true), p.1.1.1)))
-    (λ c κs. let p = c.before.before.before.before.before.requires.0 in (omega (arith, c.before.loop-test.true), (omega arith, p.1.1.1)))
-    (λ c. omega (arith, c.before.length-at2.ensures.1, c.length-at3.ensures.1))
-    (λ c. omega (arith, c.before.before.before.loop-test.true))
-    (λ c. omega (arith, c.before.before.before.loop-test.true))
+    invariant-loop-r
+    decreases-loop-r
+    (λ c κs. let p = c.requires.0 in (p.1.0, (omega arith, p.1.1.1)))
+    (λ c. let p = c.requires in via_none p.0.1.1.0 p.1.0 p.1.1 c.length_at-whole.ensures.0)
+    (λ c κs. let p = c.requires.0 in (p.1.0, (omega (arith, c.loop-r-test.true), p.1.1.1)))
+    (λ c κs. let p = c.requires.0 in (omega (arith, c.loop-r-test.true), (omega arith, p.1.1.1)))
+    (λ c. omega (arith, c.length_at-first.ensures.1, c.length_at-second.ensures.1))
+    (λ c. omega (arith, c.loop-r-test.true))
+    (λ c. omega (arith, c.loop-r-test.true))
     (λ c.
     let d = c.before.before.before in
-    let i = d.before.loop.invariant in
-    let f = c.before.before.length-at2.ensures.0 in
-    let g = c.before.length-at3.ensures.0 in
-    let e = d.before.before.length_at.ensures.0 in
-    ⊎_elim (λ w. via_nearer i f g e d.loop-test.true w.0.taken w.1 w.2) (λ w. via_kept i f g e w.0.left w.1 w.2) c.if1.branch)
-    (λ c. via_all c.loop-test.false c.before.loop.invariant))
+    let i = d.loop-r.invariant in
+    let f = c.length_at-first.ensures.0 in
+    let g = c.length_at-second.ensures.0 in
+    let e = d.length_at-whole.ensures.0 in
+    ⊎_elim (λ w. via_nearer i f g e d.loop-r-test.true w.0.taken w.1 w.2) (λ w. via_kept i f g e w.0.left w.1 w.2) c.if-first-least.branch)
+    (λ c. via_all c.loop-r-test.false c.loop-r.invariant))

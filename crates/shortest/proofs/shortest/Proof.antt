@@ -9,8 +9,8 @@ use Rattle.shortest.proofs.shortest.Statement.{statement}
 use Rattle.shortest.proofs.shortest.Tie as tie
 
 -- What the counts that were given say of the table.
-counted : (c : tie.After-counts) → Counted c.before.before.before.before.before.before.args.table.now c.counts.given.0.0
-counted c = when_good _ _ (sym (ap checked_as c.counts.given.1) ∙ c.before.before.check.ensures)
+counted : (c : tie.In-Good-2) → Counted c.args.table.now c.counts-1.given.0.0
+counted c = when_good _ _ (sym (ap checked_as c.counts-1.given.1) ∙ c.check.ensures)
 
 pub shortest_spec : {M : Type 1} → statement M
 shortest_spec =
@@ -19,18 +19,18 @@ shortest_spec =
     (λ c κs. tt)
     (λ c. search rules)
     (λ c. search rules)
-    (λ c. meets_short _ _ _ (counted c.before.before).good (rw scratch_size_lem c.if1.true))
+    (λ c. meets_short _ _ _ (counted c.before.before).good (rw scratch_size_lem c.if-scratch-lt-SCRATCH.true))
     (λ c κs. let w = counted c.before.before.before.before in (w.good, (w.states, omega (arith, scratch_size_lem))))
-    (λ c κs. omega (arith, scratch_size_lem, c.before.before.before.before.before.shortest-of.ensures.1.long))
+    (λ c κs. omega (arith, scratch_size_lem, c.shortest_of-answer.ensures.1.long))
     (λ c.
     let d = c.before in
-    let w = when_refused _ _ (sym (ap checked_as d.number.given.1) ∙ d.before.before.check.ensures) in
+    let w = when_refused _ _ (sym (ap checked_as d.number-1.given.1) ∙ d.check.ensures) in
     meets_no_table _ _ _ w.0 w.1)
     (λ c. omega arith)
     (λ c. omega arith)
     (λ c.
     let f = c.before.before.before.before.before.before.before.before in
     let e = f.before.before.before in
-    let r = f.shortest-of.ensures in
-    meets_shown _ _ _ (counted e.before.before).good (rw scratch_size_lem e.if1.false) r.0
-    (c.before.before.clear.ensures ∙ kept_cleared r.1 (rw scratch_size_lem (omega arith)))))
+    let r = f.shortest_of-answer.ensures in
+    meets_shown _ _ _ (counted e.before.before).good (rw scratch_size_lem e.if-scratch-lt-SCRATCH.false) r.0
+    (c.clear.ensures ∙ kept_cleared r.1 (rw scratch_size_lem (omega arith)))))

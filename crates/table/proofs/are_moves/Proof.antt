@@ -9,5 +9,5 @@ are_moves_spec =
     tie.close
     (tie.spec
     (λ c κs. omega arith) (λ c κs. omega arith)
-    (λ c. rw (c.before.before.are-in-range.ensures, c.before.if1.true) c.all-rise.ensures)
-    (λ c. rw (c.before.are-in-range.ensures, c.if1.false)))
+    (λ c. rw (c.are_in_range.ensures, c.if-are_in_range.true) c.all_rise.ensures)
+    (λ c. rw (c.are_in_range.ensures, c.if-are_in_range.false)))

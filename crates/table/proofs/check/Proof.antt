@@ -11,5 +11,5 @@ check_spec =
     (λ c.
     let b = c.before.before in
     let h = b.before.before in
-    simp (h.before.verdict.ensures, eq-eqb _ _ h.if1.true, b.before.number_at.ensures.0, b.number-at2.ensures.0, c.before.number-at3.ensures.0, c.word_at.ensures.0))
-    (λ c. rw (c.before.verdict.ensures, ne_eqb _ _ c.if1.false)))
+    simp (h.verdict-number.ensures, eq-eqb _ _ h.if-number-eq0.true, b.number_at.ensures.0, b.number_at-then-number-eq0.ensures.0, c.number_at-then-number-eq0-2.ensures.0, c.word_at.ensures.0))
+    (λ c. rw (c.verdict-number.ensures, ne_eqb _ _ c.if-number-eq0.false)))

@@ -12,7 +12,7 @@ checked_moves_spec =
     (λ c κs. tt) (λ c κs. omega arith) (λ c. omega arith) (λ c. omega arith) (λ c. omega arith) (λ c. omega arith)
     (λ c. let b = c.before.before.before in omega (arith, pass_size (passes b.args.table.now b.requires)))
     (λ c.
-    let p = c.before.before.moves-place in
-    let w = c.before.word_at in
-    let e : p.result + 4 * w.result - p.result ≡ 4 * w.result = omega arith in
+    let p = c.moves_place-place in
+    let w = c.word_at in
+    let e : p.result-1 + 4 * w.result-1 - p.result-1 ≡ 4 * w.result-1 = omega arith in
     rw (e, p.ensures.0, w.ensures.0)))

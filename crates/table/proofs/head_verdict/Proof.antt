@@ -13,4 +13,4 @@ head_verdict_spec =
     let b = c.before.before in
     let d = b.before.before in
     let e = d.before.before in
-    simp (e.before.is-sized.ensures, e.rung.ensures, d.before.is-small.ensures, d.rung2.ensures, b.before.at.ensures, b.rung3.ensures, c.before.is_whole.ensures, c.rung4.ensures)))
+    simp (e.is_sized.ensures, e.rung-from_size.ensures, d.is_small.ensures, d.rung-from_limit.ensures, b.at.ensures, b.rung-from_version.ensures, c.is_whole.ensures, c.rung.ensures)))

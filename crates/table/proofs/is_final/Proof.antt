@@ -9,4 +9,4 @@ is_final_spec =
     tie.close
     (tie.spec
     (λ c κs. tt)
-    (λ c. rw c.state-byte.ensures))
+    (λ c. rw c.state_byte.ensures))

@@ -12,4 +12,4 @@ is_sized_spec =
     (λ c. omega arith) (λ c. omega arith)
     (λ c.
     let b = c.before.before in
-    rw (b.before.word_at.ensures.0, b.number_at.ensures.0, c.before.number-at2.ensures.0, c.word-at2.ensures.0)))
+    rw (b.word_at.ensures.0, b.number_at.ensures.0, c.number_at-2.ensures.0, c.word_at-2.ensures.0)))

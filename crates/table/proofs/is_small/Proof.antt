@@ -11,4 +11,4 @@ is_small_spec =
     (λ c κs. tt) (λ c κs. tt) (λ c κs. tt) (λ c κs. omega arith)
     (λ c.
     let b = c.before.before in
-    rw (b.before.number_at.ensures.0, b.number-at2.ensures.0, c.before.number-at3.ensures.0, c.word_at.ensures.0)))
+    rw (b.number_at.ensures.0, b.number_at-2.ensures.0, c.number_at-3.ensures.0, c.word_at.ensures.0)))

@@ -12,14 +12,14 @@ kind_at_spec =
     (tie.spec
     (λ c κs. tt) (λ c. omega arith) (λ c. omega arith) (λ c. omega arith) (λ c κs. tt)
     (λ c.
-    let a = c.before.before.before.before.before.before.args in
+    let a = c.args in
     let s = a.table.now in
-    rw (element_of_part s kinds_place (letters_field s) a.letter (omega arith) (omega arith)) c.kind-numbered.ensures)
+    rw (element_of_part s kinds_place (letters_field s) a.letter (omega arith) (omega arith)) c.kind_numbered.ensures)
     (λ c.
-    let a = c.before.before.before.before.args in
+    let a = c.args in
     let s = a.table.now in
     rw (no_element_past_end s kinds_place (letters_field s) a.letter (omega arith)))
     (λ c.
-    let a = c.before.before.before.args in
+    let a = c.args in
     let s = a.table.now in
     rw (no_element_past_count s kinds_place (letters_field s) a.letter (omega arith))))

@@ -16,5 +16,5 @@ move_at_spec =
     (λ c. omega arith)
     (λ c. omega arith)
     (λ c. omega arith)
-    (λ c. rw (entry_at, lt-ltb _ _ c.before.before.before.before.if1.true))
-    (λ c. rw (entry_at, le-ltb _ _ c.if1.false)))
+    (λ c. rw (entry_at, lt-ltb _ _ c.if-k-part.true))
+    (λ c. rw (entry_at, le-ltb _ _ c.if-k-part.false)))

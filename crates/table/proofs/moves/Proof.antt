@@ -9,7 +9,7 @@ moves_spec =
     tie.close
     (tie.spec
     (λ c κs. tt)
-    (λ c κs. c.before.verdict.ensures ∙ c.if1.true)
+    (λ c κs. c.verdict.ensures ∙ c.if-verdict-eq0.true)
     (λ c. omega arith)
-    (λ c. simp (c.before.before.verdict.ensures, eq-eqb _ _ c.before.if1.true) c.checked-moves.ensures)
-    (λ c. simp (c.before.before.verdict.ensures, ne_eqb _ _ c.before.if1.false)))
+    (λ c. simp (c.verdict.ensures, eq-eqb _ _ c.if-verdict-eq0.true) c.checked_moves.ensures)
+    (λ c. simp (c.verdict.ensures, ne_eqb _ _ c.if-verdict-eq0.false)))

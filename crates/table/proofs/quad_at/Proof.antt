@@ -14,6 +14,6 @@ quad_at_spec =
     (λ c.
     let b = c.before.before in
     let d = b.before.before in
-    let i = d.before.before.before.before.before.args.i in
+    let i = d.args.i in
     let e : i + 2 + 1 ≡ i + 3 = omega arith in
-    simp (e, c.wide324.ensures.0, b.wide323.ensures.0, d.wide322.ensures.0, d.before.before.wide32.ensures.0)))
+    simp (e, c.wide32-4.ensures.0, b.wide32-3.ensures.0, d.wide32-2.ensures.0, d.wide32.ensures.0)))

@@ -10,10 +10,10 @@ state_byte_spec =
     (tie.spec
     (λ c κs. tt) (λ c κs. tt) (λ c. omega arith) (λ c. omega arith) (λ c κs. tt)
     (λ c.
-    let a = c.before.before.before.before.before.args in
+    let a = c.args in
     let s = a.table.now in
-    rw (byte_in_part s (states_place s) (states_field s) a.state (omega arith), c.before.number-at2.ensures.0, c.at.ensures))
+    rw (byte_in_part s (states_place s) (states_field s) a.state (omega arith), c.number_at-then-state-number_at.ensures.0, c.at.ensures))
     (λ c.
-    let a = c.before.before.before.args in
+    let a = c.args in
     let s = a.table.now in
     byte_past_part s (states_place s) (states_field s) a.state (omega arith)))

@@ -9,13 +9,13 @@ verdict_spec =
     tie.close
     (tie.spec
     (λ c κs. tt)
-    (λ c. refused_by_head _ c.before.head-verdict.ensures c.if1.true)
-    (λ c κs. omega (arith, size_after_head _ (c.before.head-verdict.ensures ∙ c.if1.false)))
+    (λ c. refused_by_head _ c.head_verdict-head.ensures c.if-head-ne0.true)
+    (λ c κs. omega (arith, size_after_head _ (c.head_verdict-head.ensures ∙ c.if-head-ne0.false)))
     (λ c κs. tt)
-    (λ c κs. let b = c.before.before in omega (arith, size_after_head _ (b.before.head-verdict.ensures ∙ b.if1.false)))
+    (λ c κs. let b = c.before.before in omega (arith, size_after_head _ (b.head_verdict-head.ensures ∙ b.if-head-ne0.false)))
     (λ c κs. tt)
     (λ c.
     let b = c.before.before in
     let h = b.before.before in
-    rw (verdict_after_head _ (h.before.head-verdict.ensures ∙ h.if1.false), c.before.are-lists.ensures, b.before.are-moves.ensures, b.rung.ensures)
-    c.rung2.ensures))
+    rw (verdict_after_head _ (h.head_verdict-head.ensures ∙ h.if-head-ne0.false), c.are_lists.ensures, b.are_moves.ensures, b.rung-from_moves.ensures)
+    c.rung.ensures))

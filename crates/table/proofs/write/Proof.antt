@@ -11,14 +11,14 @@ write_spec =
     tie.close
     (tie.spec
     (λ c κs. tt)
-    (λ c. simp (c.before.verdict.ensures, ne_eqb _ _ c.if1.true) (refl, refl))
+    (λ c. simp (c.verdict-number.ensures, ne_eqb _ _ c.if-number-ne0.true) (refl, refl))
     (λ c.
-    let a = c.before.before.before.before.before.args in
-    let short : length a.out.now < length a.table.now = omega arith in
-    simp (c.before.before.verdict.ensures, eq-eqb _ _ c.before.if1.false, lt-ltb _ _ short) (refl, refl))
+    let a = c.args in
+    let short : length a.out-1.now < length a.table.now = omega arith in
+    simp (c.verdict-number.ensures, eq-eqb _ _ c.if-number-ne0.false, lt-ltb _ _ short) (refl, refl))
     (λ c κs. omega arith) (λ c. omega arith)
     (λ c.
     let b = c.before.before.before.before in
-    let a = b.before.before.before.before.before.args in
-    let room : length a.table.now ≤ length a.out.now = omega arith in
-    simp (b.before.before.verdict.ensures, eq-eqb _ _ b.before.if1.false, le-ltb _ _ room) (refl, c.before.before.copy.ensures)))
+    let a = b.args in
+    let room : length a.table.now ≤ length a.out-1.now = omega arith in
+    simp (b.verdict-number.ensures, eq-eqb _ _ b.if-number-ne0.false, le-ltb _ _ room) (refl, c.copy.ensures)))

@@ -6,28 +6,28 @@ use Rattle.trim.proofs.Blocks.{before_next, before_to, from_none, from_here, cut
 use Rattle.trim.proofs.end_of.Statement.{statement}
 use Rattle.trim.proofs.end_of.Tie as tie
 
-abbrev invariant-loop : tie.invariant-loop
-invariant-loop part at key k₀ k = (at ≤ k) × CutBefore part (key + 1) k
+abbrev invariant-loop-k : tie.invariant-loop-k
+invariant-loop-k part at key k₀ k = (at ≤ k) × CutBefore part (key + 1) k
 
-abbrev decreases-loop : tie.decreases-loop
-decreases-loop part at key k₀ k = length part / 4 - k
+abbrev decreases-loop-k : tie.decreases-loop-k
+decreases-loop-k part at key k₀ k = length part / 4 - k
 
 pub end_of_spec : {M : Type 1} → statement M
 end_of_spec =
     tie.close
     (tie.spec
-    invariant-loop
-    decreases-loop
-    (λ c. (omega arith, before_next c.before.requires.1))
+    invariant-loop-k
+    decreases-loop-k
+    (λ c. (omega arith, before_next c.requires.1))
     (λ c κs. omega arith)
     (λ c.
     let d = c.before.before in
-    let l = d.before.loop in
-    let p = d.before.before.before.requires in
-    (l.invariant.0, cut_of l.invariant.1 (from_here l.k p.0 (omega (arith, p.1.after.at l.k l.invariant.0 d.loop-test.true))) (omega arith)))
+    let l = d.loop-k in
+    let p = d.requires in
+    (l.invariant.0, cut_of l.invariant.1 (from_here l.k p.0 (omega (arith, p.1.after.at l.k l.invariant.0 d.loop-k-test.true))) (omega arith)))
     (λ c. omega arith)
     (λ c. omega arith)
     (λ c.
     let d = c.before.before in
-    (omega arith, before_to d.before.before.before.requires.0 d.loop-test.true (omega arith)))
-    (λ c. (c.before.loop.invariant.0, cut_of c.before.loop.invariant.1 (from_none _ c.loop-test.false) (omega arith))))
+    (omega arith, before_to d.requires.0 d.loop-k-test.true (omega arith)))
+    (λ c. (c.loop-k.invariant.0, cut_of c.loop-k.invariant.1 (from_none _ c.loop-k-test.false) (omega arith))))

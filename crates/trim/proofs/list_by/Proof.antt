@@ -15,44 +15,44 @@ list_by_spec =
     (tie.spec
     (λ c κs. tt)
     (λ c. omega arith)
-    (λ c κs. let p = c.before.before.before.before.before.before.before.requires in ends_low _ p.0.0 p.1.1)
+    (λ c κs. let p = c.requires in ends_low _ p.0.0 p.1.1)
     (λ c κs.
-    let p = c.before.before.before.before.before.before.before.before.before.requires in
+    let p = c.requires in
     ((omega arith, (omega arith, omega arith)), (number_low p.1.0.0 p.1.0.1, (letter_low _ p.0.0 p.0.1.0, omega arith))))
     (λ c. omega arith)
     (λ c κs.
-    let p = c.before.before.before.before.before.before.before.requires in
+    let p = c.requires in
     ((letter_low _ p.0.0 p.0.1.0, (number_low p.1.0.0 p.1.0.1, (omega arith, omega arith))), ends_low _ p.0.0 p.1.1))
     (λ c. omega arith)
     (λ c κs.
-    let p = c.before.before.before.before.before.before.before.requires in
+    let p = c.requires in
     ((letter_low _ p.0.0 p.0.1.0, (number_low p.1.0.0 p.1.0.1, (omega arith, omega arith))), ends_low _ p.0.0 p.1.1))
     (λ c. omega arith)
     (λ c. omega arith)
     (λ c.
     let d = c.before.before.before.before.before.before in
     let k = d.before.before in
-    let p = k.before.before.before.before.requires in
+    let p = k.requires in
     appended_same
-    (plain_rows p.1.0.0 p.1.0.1 p.1.1 (good_table _ p.0.0) (told_kind _ _ (sym (ap kind_as d.enum_told.given.1) ∙ k.kind_at.ensures))
-    _ c.before.before.before.before.targets.ensures)
-    c.before.before.append.ensures)
+    (plain_rows p.1.0.0 p.1.0.1 p.1.1 (good_table _ p.0.0) (told_kind _ _ (sym (ap kind_as d.enum_told-1.given.1) ∙ k.kind_at.ensures))
+    _ c.targets.ensures)
+    c.append.ensures)
     (λ c. omega arith)
     (λ c.
     let d = c.before.before.before.before in
     let k = d.before.before in
-    let p = k.before.before.before.before.requires in
+    let p = k.requires in
     appended_same
-    (open_rows p.1.0.0 p.1.0.1 p.1.1 (told_kind _ _ (sym (ap kind_as d.enum-told2.given.1) ∙ k.kind_at.ensures)))
-    c.before.before.list-marked.ensures)
+    (open_rows p.1.0.0 p.1.0.1 p.1.1 (told_kind _ _ (sym (ap kind_as d.enum_told-in-Open-1.given.1) ∙ k.kind_at.ensures)))
+    c.list_marked.ensures)
     (λ c. omega arith)
     (λ c.
     let d = c.before.before.before.before in
     let k = d.before.before in
-    let p = k.before.before.before.before.requires in
+    let p = k.requires in
     appended_same
-    (close_rows p.1.0.0 p.1.0.1 p.1.1 (told_kind _ _ (sym (ap kind_as d.enum-told3.given.1) ∙ k.kind_at.ensures)))
-    c.before.before.list-marked2.ensures)
+    (close_rows p.1.0.0 p.1.0.1 p.1.1 (told_kind _ _ (sym (ap kind_as d.enum_told-in-Close-1.given.1) ∙ k.kind_at.ensures)))
+    c.list_marked-in-Close.ensures)
     (λ c.
     let k = c.before.before in
-    absurd (told_none _ k.before.before.before.before.requires.0.1.0 (sym (ap kind_as c.enum-told4.given.1) ∙ k.kind_at.ensures))))
+    absurd (told_none _ k.requires.0.1.0 (sym (ap kind_as c.enum_told-in-NoLetter-1.given.1) ∙ k.kind_at.ensures))))

@@ -13,29 +13,29 @@ use Rattle.triples.proofs.Rows.{ListedBelow, listed_none, listed_more}
 use Rattle.trim.proofs.list_from.Statement.{statement}
 use Rattle.trim.proofs.list_from.Tie as tie
 
-abbrev invariant-loop : tie.invariant-loop
-invariant-loop scratch₀ count table letters from here mark entered outer part key₀ at₀ total₀ letter₀ scratch key at total letter =
+abbrev invariant-loop-letter : tie.invariant-loop-letter
+invariant-loop-letter scratch₀ count table letters from here mark entered outer part key₀ at₀ total₀ letter₀ scratch key at total letter =
     (key ≡ 256 * from.state + letter)
     × (ListedBelow 1024 (moves_by (parse table) from.number) letter scratch₀ count scratch total × (Cut part key at × (letter ≤ letters)))
 
-abbrev decreases-loop : tie.decreases-loop
-decreases-loop scratch₀ count table letters from here mark entered outer part key₀ at₀ total₀ letter₀ scratch key at total letter = letters - letter
+abbrev decreases-loop-letter : tie.decreases-loop-letter
+decreases-loop-letter scratch₀ count table letters from here mark entered outer part key₀ at₀ total₀ letter₀ scratch key at total letter = letters - letter
 
-low : (c : tie.In-loop invariant-loop decreases-loop) → c.before.loop.letter < letter_count (parse c.before.before.before.before.before.before.before.args.table.now)
-low c = omega (arith, c.loop-test.true, c.before.before.before.before.before.before.before.requires.0.1.0)
+low : (c : tie.In-loop-letter invariant-loop-letter decreases-loop-letter) → c.loop-letter.letter < letter_count (parse c.args.table.now)
+low c = omega (arith, c.loop-letter-test.true, c.requires.0.1.0)
 
 pub list_from_spec : {M : Type 1} → statement M
 list_from_spec =
     tie.close
     (tie.spec
-    invariant-loop
-    decreases-loop
-    (λ c κs. c.before.before.requires.0.0)
-    (λ c. let p = c.before.before.before.before.requires in omega (arith, state_low _ p.0.0 p.1.1))
-    (λ c κs. rising_part _ c.before.before.before.before.requires.0.0 c.before.checked-moves.ensures)
-    (λ c. (omega arith, (listed_none _ (omega arith), (c.first-move.ensures, omega arith))))
-    (λ c κs. (rising_part _ c.before.before.before.before.before.before.before.requires.0.0 c.before.before.before.before.checked-moves.ensures, c.before.loop.invariant.1.1.0))
-    (λ c. omega (arith, c.before.before.before.before.loop.invariant.1.1.0.before.inside))
+    invariant-loop-letter
+    decreases-loop-letter
+    (λ c κs. c.requires.0.0)
+    (λ c. let p = c.requires in omega (arith, state_low _ p.0.0 p.1.1))
+    (λ c κs. rising_part _ c.requires.0.0 c.checked_moves-part.ensures)
+    (λ c. (omega arith, (listed_none _ (omega arith), (c.first_move-at.ensures, omega arith))))
+    (λ c κs. (rising_part _ c.requires.0.0 c.checked_moves-part.ensures, c.loop-letter.invariant.1.1.0))
+    (λ c. omega (arith, c.loop-letter.invariant.1.1.0.before.inside))
     (λ c. omega (arith, c.before.before.end_of_lem.ensures.1.before.inside))
     (λ c. omega arith)
     (λ c. omega arith)
@@ -43,18 +43,18 @@ list_from_spec =
     (λ c κs.
     let e = c.before.before.before in
     let d = e.before in
-    let p = d.before.before.before.before.before.before.before.requires in
-    let i = d.before.loop.invariant in (
+    let p = d.requires in
+    let i = d.loop-letter.invariant in (
       (p.0.0, (low d, (omega (arith, appended_low i.1.0.appended), omega (arith, appended_long i.1.0.appended)))),
-      (p.1, block_of _ p.0.0 d.before.before.before.before.checked-moves.ensures i.0 (low d) i.1.1.0 e.end_of_lem.ensures.1),
+      (p.1, block_of _ p.0.0 d.checked_moves-part.ensures i.0 (low d) i.1.1.0 e.end_of_lem.ensures.1),
     ))
-    (λ c. let p = c.before.before.before.before.before.before.before.before.before.requires in omega (arith, state_low _ p.0.0 p.1.1, c.before.before.before.loop.invariant.0, (good_storable _ p.0.0).letters))
+    (λ c. let p = c.requires in omega (arith, state_low _ p.0.0 p.1.1, c.loop-letter.invariant.0, (good_storable _ p.0.0).letters))
     (λ c. omega arith)
     (λ c. omega arith)
     (λ c.
     let d = c.before.before in
-    let p = d.before.before.before.before.before.before.before.requires in
-    let i = d.before.loop.invariant in (
+    let p = d.requires in
+    let i = d.loop-letter.invariant in (
       omega arith,
       (
         listed_more i.1.0
@@ -62,12 +62,12 @@ list_from_spec =
             (λ w. appended_as w.3.ensures w.6 w.7)
             (λ w.
             appended_as
-            (appended_same (sym (no_rows p.1.1 (block_none _ p.0.0 d.before.before.before.before.checked-moves.ensures i.0 i.1.1.0 c.before.end_of_lem.ensures.1 w.0.left)))
+            (appended_same (sym (no_rows p.1.1 (block_none _ p.0.0 d.checked_moves-part.ensures i.0 i.1.1.0 c.before.end_of_lem.ensures.1 w.0.left)))
             (appended_none _ (omega (arith, appended_low i.1.0.appended))))
             w.1 w.2)
-            c.if1.branch),
+            c.if-at-end.branch),
         (c.before.end_of_lem.ensures.1, omega arith),
       ),
     ))
-    (λ c. appended_long c.before.loop.invariant.1.0.appended)
-    (λ c. from_all _ _ (omega (arith, c.before.before.before.before.before.before.before.requires.0.1.0)) c.before.loop.invariant.1.0))
+    (λ c. appended_long c.loop-letter.invariant.1.0.appended)
+    (λ c. from_all _ _ (omega (arith, c.requires.0.1.0)) c.loop-letter.invariant.1.0))

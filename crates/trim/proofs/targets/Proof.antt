@@ -7,23 +7,23 @@ use Rattle.triples.proofs.Laying.{bytes_fit}
 use Rattle.trim.proofs.targets.Statement.{statement}
 use Rattle.trim.proofs.targets.Tie as tie
 
-abbrev invariant-loop : tie.invariant-loop
-invariant-loop block mark here r₀ k₀ r k = ArrivedSoFar block mark here k r × (k ≤ length block / 4)
+abbrev invariant-loop-k : tie.invariant-loop-k
+invariant-loop-k block mark here r₀ k₀ r k = ArrivedSoFar block mark here k r × (k ≤ length block / 4)
 
-abbrev decreases-loop : tie.decreases-loop
-decreases-loop block mark here r₀ k₀ r k = length block / 4 - k
+abbrev decreases-loop-k : tie.decreases-loop-k
+decreases-loop-k block mark here r₀ k₀ r k = length block / 4 - k
 
-low : (c : tie.After-byte-wide2 invariant-loop decreases-loop) → c.byte-wide2.result < 64
+low : (c : tie.After-byte_wide-then-byte_wide-mark invariant-loop-k decreases-loop-k) → c.byte_wide-then-byte_wide-mark.result < 64
 low c =
     let d = c.before.before.before.before.before in
-    omega (arith, c.byte-wide2.ensures.0, d.before.before.before.requires.at d.before.loop.k d.loop-test.true)
+    omega (arith, c.byte_wide-then-byte_wide-mark.ensures.0, d.requires.at d.loop-k.k d.loop-k-test.true)
 
 pub targets_spec : {M : Type 1} → statement M
 targets_spec =
     tie.close
     (tie.spec
-    invariant-loop
-    decreases-loop
+    invariant-loop-k
+    decreases-loop-k
     (λ c. (arrived_none _ _ _, omega arith))
     (λ c. omega arith)
     (λ c. omega arith)
@@ -38,7 +38,7 @@ targets_spec =
     (λ c. omega arith)
     (λ c.
     let d = c.before.before.before in
-    (arrived_take d.before.before.before.before.loop.invariant.0 (d.before.byte-wide.ensures.0 ∙ d.if1.true) c.before.byte-wide2.ensures.0, omega arith))
+    (arrived_take d.loop-k.invariant.0 (d.byte_wide.ensures.0 ∙ d.if-byte_wide-mark.true) c.byte_wide-then-byte_wide-mark.ensures.0, omega arith))
     (λ c. omega arith)
-    (λ c. (arrived_skip c.before.before.before.before.loop.invariant.0 (λ e. c.if1.false (omega arith)), omega arith))
-    (λ c. arrived_all c.before.loop.invariant.1 c.loop-test.false c.before.loop.invariant.0))
+    (λ c. (arrived_skip c.loop-k.invariant.0 (λ e. c.if-byte_wide-mark.false (omega arith)), omega arith))
+    (λ c. arrived_all c.loop-k.invariant.1 c.loop-k-test.false c.loop-k.invariant.0))

@@ -13,32 +13,32 @@ use Rattle.trim.proofs.trim_with_marks.Statement.{statement}
 use Rattle.trim.proofs.trim_with_marks.Tie as tie
 
 -- What was listed stands in scratch, where it is not too much.
-listed : (c : tie.After-list-moves) → c.list-moves.result ≤ 1024 →
-    let a = c.before.before.before.before.before.before.args in
-    ListedIn c.list-moves.new.1.1.1.0 c.list-moves.result (trim_table (parse a.table.now)).moves
+listed : (c : tie.After-list_moves-moves) → c.list_moves-moves.result ≤ 1024 →
+    let a = c.args in
+    ListedIn c.list_moves-moves.new.1.1.1.0 c.list_moves-moves.result (trim_table (parse a.table.now)).moves
 listed c l =
-    let h = c.list-moves.ensures in
-    listed_in h l (omega (arith, scratch_size_lem, c.before.before.before.before.before.before.requires.0.1.1, appended_long h))
+    let h = c.list_moves-moves.ensures in
+    listed_in h l (omega (arith, scratch_size_lem, c.requires.0.1.1, appended_long h))
 
-few : (c : tie.After-list-moves) →
-    let a = c.before.before.before.before.before.before.args in (a.letters ≤ 256) × (a.states.count ≤ 64)
+few : (c : tie.After-list_moves-moves) →
+    let a = c.args in (a.letters ≤ 256) × (a.states.count ≤ 64)
 few c =
-    let p = c.before.before.before.before.before.before.requires in
+    let p = c.requires in
     (omega (arith, p.0.1.0, (good_storable _ p.0.0).letters), p.1.0.most)
 
 pub trim_with_marks_spec : {M : Type 1} → statement M
 trim_with_marks_spec =
     tie.close
     (tie.spec
-    (λ c κs. let p = c.before.before.before.requires in (states_low _ p.0.0 p.1.0, marks_low _ p.0.0 p.1.1.0))
+    (λ c κs. let p = c.requires in (states_low _ p.0.0 p.1.0, marks_low _ p.0.0 p.1.1.0))
     (λ c κs.
-    let p = c.before.before.before.before.before.requires in
-    (p.0, c.before.plan-of.ensures.of _ p.1.0 p.1.1.0 p.1.1.1))
+    let p = c.requires in
+    (p.0, c.plan_of-plan.ensures.of _ p.1.0 p.1.1.0 p.1.1.1))
     (λ c. omega arith)
     (λ c.
     let d = c.before.before.before in
-    let m = many_moves _ _ d.list-moves.ensures (omega (arith, c.if1.true)) in
-    (m.0, (m.1, d.list-moves.ensures.kept)))
+    let m = many_moves _ _ d.list_moves-moves.ensures (omega (arith, c.if-moves-gt-MOVES.true)) in
+    (m.0, (m.1, d.list_moves-moves.ensures.kept)))
     (λ c. omega (arith, few c.before.before.before))
     (λ c. omega (arith, few c.before.before.before.before))
     (λ c. omega arith)
@@ -46,18 +46,18 @@ trim_with_marks_spec =
     (λ c. omega arith)
     (λ c.
     let d = c.before.before.before.before.before in
-    let p = d.before.before.before.before.before.before.requires in
-    let m = no_room _ p.0.0 _ p.1.0 p.0.1.0 p.1.1.0.count p.1.1.0.most (listed d c.before.before.if1.false) (omega (arith, c.if2.true)) in
-    (m.0, (m.1, d.list-moves.ensures.kept)))
+    let p = d.requires in
+    let m = no_room _ p.0.0 _ p.1.0 p.0.1.0 p.1.1.0.count p.1.1.0.most (listed d c.if-moves-gt-MOVES.false) (omega (arith, c.if-out-size.true)) in
+    (m.0, (m.1, d.list_moves-moves.ensures.kept)))
     (λ c κs.
     let d = c.before.before.before.before.before.before.before in
-    let p = d.before.before.before.before.before.before.requires in
-    ((p.0.0, p.0.1.0), (p.1.0, ((p.1.1.0.count ∙ sym (trimmed_marks _), p.1.1.0.most), (listed d c.before.before.before.before.if1.false, omega (arith, c.before.before.if2.false))))))
+    let p = d.requires in
+    ((p.0.0, p.0.1.0), (p.1.0, ((p.1.1.0.count ∙ sym (trimmed_marks _), p.1.1.0.most), (listed d c.if-moves-gt-MOVES.false, omega (arith, c.if-out-size.false))))))
     (λ c. omega arith)
     (λ c. omega arith)
     (λ c.
     let e = c.before.before.before.before.before in
     let d = e.before.before.before.before.before in
-    let p = d.before.before.before.before.before.before.requires in
-    let m = all_written _ p.0.0 _ p.1.0 p.0.1.0 p.1.1.0.count p.1.1.0.most (listed d e.before.before.if1.false) e.if2.false c.before.before.write-table.ensures in
-    (m.0, (m.1, d.list-moves.ensures.kept))))
+    let p = d.requires in
+    let m = all_written _ p.0.0 _ p.1.0 p.0.1.0 p.1.1.0.count p.1.1.0.most (listed d e.if-moves-gt-MOVES.false) e.if-out-size.false c.write_table.ensures in
+    (m.0, (m.1, d.list_moves-moves.ensures.kept))))

@@ -9,21 +9,21 @@ use Rattle.trim.proofs.Written.{LaidSoFar, so_far_none, so_far_more, so_far_all,
 use Rattle.trim.proofs.write_states.Statement.{statement}
 use Rattle.trim.proofs.write_states.Tie as tie
 
-abbrev invariant-loop : tie.invariant-loop
-invariant-loop table place out₀ begins ends here i₀ i-end out i = LaidSoFar place (trim_table (parse table)).state_bytes out₀ i out
+abbrev invariant-loop-i : tie.invariant-loop-i
+invariant-loop-i table place out₀ begins ends here i₀ i-end out i = LaidSoFar place (trim_table (parse table)).state_bytes out₀ i out
 
-abbrev decreases-loop : tie.decreases-loop
-decreases-loop table place out₀ begins ends here i₀ i-end out i = length (trim_table (parse table)).state_bytes - i
+abbrev decreases-loop-i : tie.decreases-loop-i
+decreases-loop-i table place out₀ begins ends here i₀ i-end out i = length (trim_table (parse table)).state_bytes - i
 
-low : (c : tie.In-loop invariant-loop decreases-loop) → c.before.loop.i < 64
-low c = omega (arith, c.loop-test.true, c.before.before.before.before.before.before.before.requires.0.most)
+low : (c : tie.In-loop-i invariant-loop-i decreases-loop-i) → c.loop-i.i < 64
+low c = omega (arith, c.loop-i-test.true, c.requires.0.most)
 
 pub write_states_spec : {M : Type 1} → statement M
 write_states_spec =
     tie.close
     (tie.spec
-    invariant-loop
-    decreases-loop
+    invariant-loop-i
+    decreases-loop-i
     (λ c. so_far_none _ _ _)
     (λ c. bytes_fit (low c))
     low
@@ -35,7 +35,7 @@ write_states_spec =
     (λ c. omega arith)
     (λ c. omega arith)
     (λ c. omega arith)
-    (λ c. omega (arith, bytes_count _ c.before.before.before.before.before.before.before.before.requires.0))
-    (λ c. let d = c.before.before.before.before.before.before.before.before in so_far_more (byte_of _ d.requires.0 (omega arith) ∙ c.state-byte.ensures) (omega (arith, bytes_count _ d.requires.0)) (omega arith) c.before.before.loop.invariant)
-    (λ c. c.before.loop.invariant.is.long)
-    (λ c. so_far_all (omega (arith, bytes_count _ c.before.before.before.before.before.before.before.requires.0)) c.before.loop.invariant))
+    (λ c. omega (arith, bytes_count _ c.requires.0))
+    (λ c. let d = c.before.before.before.before.before.before.before.before in so_far_more (byte_of _ d.requires.0 (omega arith) ∙ c.state_byte.ensures) (omega (arith, bytes_count _ d.requires.0)) (omega arith) c.loop-i.invariant)
+    (λ c. c.loop-i.invariant.is.long)
+    (λ c. so_far_all (omega (arith, bytes_count _ c.requires.0)) c.loop-i.invariant))

@@ -9,10 +9,10 @@ pub append_spec : {M : Type 1} → statement M
 append_spec =
     tie.close
     (tie.spec
-    (λ c. omega (arith, ones-le 64 _ c.before.ranges.last.fits))
-    (λ c. omega (arith, ones-le 64 _ c.before.ranges.last.fits))
+    (λ c. omega (arith, ones-le 64 _ c.ranges.last.fits))
+    (λ c. omega (arith, ones-le 64 _ c.ranges.last.fits))
     (λ c. omega arith)
-    (λ c. append_skip _ _ _ c.before.before.ranges.last.fits (omega arith))
-    (λ c κs. ((omega (arith, digits_length _ c.before.before.before.ranges.last.fits), omega arith), c.before.before.before.requires.1))
-    (λ c. c.before.before.write-rows.ensures.long)
-    (λ c. append_laid _ _ _ c.before.before.before.before.before.before.ranges.last.fits (omega arith) c.before.before.write-rows.ensures))
+    (λ c. append_skip _ _ _ c.ranges.last.fits (omega arith))
+    (λ c κs. ((omega (arith, digits_length _ c.ranges.last.fits), omega arith), c.requires.1))
+    (λ c. c.write_rows.ensures.long)
+    (λ c. append_laid _ _ _ c.ranges.last.fits (omega arith) c.write_rows.ensures))

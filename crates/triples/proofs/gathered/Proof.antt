@@ -10,27 +10,27 @@ use Rattle.triples.proofs.Marks.{gathers_none, gathers_more, gathers_all}
 use Rattle.triples.proofs.gathered.Statement.{statement}
 use Rattle.triples.proofs.gathered.Tie as tie
 
-abbrev invariant-loop : tie.invariant-loop
-invariant-loop from to scratch place named r₀ k₀ r k = Gathers r₀ from k scratch place named r × ((from ≤ k) × ((k ≤ max from to) × (length r ≡ 64)))
+abbrev invariant-loop-k : tie.invariant-loop-k
+invariant-loop-k from to scratch place named r₀ k₀ r k = Gathers r₀ from k scratch place named r × ((from ≤ k) × ((k ≤ max from to) × (length r ≡ 64)))
 
-abbrev decreases-loop : tie.decreases-loop
-decreases-loop from to scratch place named r₀ k₀ r k = to - k
+abbrev decreases-loop-k : tie.decreases-loop-k
+decreases-loop-k from to scratch place named r₀ k₀ r k = to - k
 
-low : (c : tie.In-loop invariant-loop decreases-loop) → c.before.loop.k < 64
-low c = omega (arith, c.loop-test.true)
+low : (c : tie.In-loop-k invariant-loop-k decreases-loop-k) → c.loop-k.k < 64
+low c = omega (arith, c.loop-k-test.true)
 
-value : (c : tie.After-wide invariant-loop decreases-loop) → c.wide.result < 64
+value : (c : tie.After-wide invariant-loop-k decreases-loop-k) → c.wide.result < 64
 value c =
-    let l = c.before.before.before.loop in
-    omega (arith, c.wide.ensures.0, c.before.before.before.before.before.requires.1 l.k l.invariant.1.0 c.before.before.loop-test.true)
+    let l = c.loop-k in
+    omega (arith, c.wide.ensures.0, c.requires.1 l.k l.invariant.1.0 c.loop-k-test.true)
 
 pub gathered_spec : {M : Type 1} → statement M
 gathered_spec =
     tie.close
     (tie.spec
-    invariant-loop
-    decreases-loop
-    (λ c. (gathers_none _ _ _ _ _, (omega arith, (omega arith, (owned c.before.args.old _ c.before.well-formed.0).rows))))
+    invariant-loop-k
+    decreases-loop-k
+    (λ c. (gathers_none _ _ _ _ _, (omega arith, (omega arith, (owned c.args.old _ c.well_formed.0).rows))))
     (λ c. omega arith)
     (λ c. omega arith)
     (λ c. omega arith)
@@ -42,5 +42,5 @@ gathered_spec =
     (λ c. low c.before.before)
     (λ c. omega arith)
     (λ c. omega arith)
-    (λ c. (gathers_more c.before.before.before.loop.invariant.0 (omega arith) (omega arith) c.wide.ensures.0, (omega arith, (omega arith, rw length-set c.before.before.before.loop.invariant.1.1.1))))
-    (λ c. gathers_all c.before.loop.invariant.0 (omega arith) (omega arith)))
+    (λ c. (gathers_more c.loop-k.invariant.0 (omega arith) (omega arith) c.wide.ensures.0, (omega arith, (omega arith, rw length-set c.loop-k.invariant.1.1.1))))
+    (λ c. gathers_all c.loop-k.invariant.0 (omega arith) (omega arith)))

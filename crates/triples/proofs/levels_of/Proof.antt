@@ -7,11 +7,11 @@ levels_of_spec =
     tie.close
     (tie.spec
     (λ c κs. c.requires.0)
-    (λ c κs. c.before.requires.1.0)
-    (λ c κs. let p = c.before.before.before.before.requires in (p.0, p.1.0))
-    (λ c κs. c.before.before.before.before.before.requires.1.1)
+    (λ c κs. c.requires.1.0)
+    (λ c κs. let p = c.requires in (p.0, p.1.0))
+    (λ c κs. c.requires.1.1)
     (λ c.
     let d = c.before.before.before.before in
-    let begun = d.before.numbers-at.ensures in
-    let ending = d.numbers-at2.ensures in
-    (same_values begun ending c.before.on-levels.ensures, same_values begun ending c.on-levels2.ensures)))
+    let begun = d.numbers_at-begun.ensures in
+    let ending = d.numbers_at-ending.ensures in
+    (same_values begun ending c.on_levels.ensures, same_values begun ending c.on_levels-2.ensures)))

@@ -6,29 +6,29 @@ use Rattle.triples.proofs.Rows.{ListedBelow, listed_none, states_more, states_al
 use Rattle.triples.proofs.list_states.Statement.{statement}
 use Rattle.triples.proofs.list_states.Tie as tie
 
-abbrev invariant-loop : tie.invariant-loop
-invariant-loop scratch₀ balanced live back count₀ o₀ scratch count o = ListedBelow 64 (states_from balanced live) o scratch₀ 0 scratch count × (o ≤ 64)
+abbrev invariant-loop-o : tie.invariant-loop-o
+invariant-loop-o scratch₀ balanced live back count₀ o₀ scratch count o = ListedBelow 64 (states_from balanced live) o scratch₀ 0 scratch count × (o ≤ 64)
 
-abbrev decreases-loop : tie.decreases-loop
-decreases-loop scratch₀ balanced live back count₀ o₀ scratch count o = 64 - o
+abbrev decreases-loop-o : tie.decreases-loop-o
+decreases-loop-o scratch₀ balanced live back count₀ o₀ scratch count o = 64 - o
 
 pub list_states_spec : {M : Type 1} → statement M
 list_states_spec =
     tie.close
     (tie.spec
-    invariant-loop
-    decreases-loop
+    invariant-loop-o
+    decreases-loop-o
     (λ c κs. tt)
     (λ c. (listed_none _ (omega arith), omega arith))
-    (λ c. bytes_fit c.before.loop-test.true)
-    (λ c. c.before.loop-test.true)
-    (λ c. bytes_fit c.before.before.loop-test.true)
-    (λ c. c.before.before.loop-test.true)
-    (λ c κs. let h = c.before.before.before.loop.invariant.0.appended in (omega arith, (appended_low h, omega (arith, appended_long h))))
+    (λ c. bytes_fit c.loop-o-test.true)
+    (λ c. c.loop-o-test.true)
+    (λ c. bytes_fit c.loop-o-test.true)
+    (λ c. c.loop-o-test.true)
+    (λ c κs. let h = c.loop-o.invariant.0.appended in (omega arith, (appended_low h, omega (arith, appended_long h))))
     (λ c. omega arith)
     (λ c. omega arith)
     (λ c.
     let d = c.before.before.before.before.before.before in
-    (states_more _ d.before.transposed.ensures _ d.loop.invariant.0 c.before.before.list-states-from.ensures, omega arith))
-    (λ c. appended_long c.before.loop.invariant.0.appended)
-    (λ c. states_all _ _ (omega arith) c.before.loop.invariant.0))
+    (states_more _ d.transposed-back.ensures _ d.loop-o.invariant.0 c.list_states_from-count.ensures, omega arith))
+    (λ c. appended_long c.loop-o.invariant.0.appended)
+    (λ c. states_all _ _ (omega arith) c.loop-o.invariant.0))

@@ -6,24 +6,24 @@ use Rattle.triples.proofs.Numbers.{NumbersSoFar, numbers_none, numbers_take, num
 use Rattle.triples.proofs.numbers_at.Statement.{statement}
 use Rattle.triples.proofs.numbers_at.Tie as tie
 
-abbrev invariant-loop : tie.invariant-loop
-invariant-loop n values r₀ j₀ r j = NumbersSoFar (λ j. Unit {0}) values j r × (j ≤ n)
+abbrev invariant-loop-j : tie.invariant-loop-j
+invariant-loop-j n values r₀ j₀ r j = NumbersSoFar (λ j. Unit {0}) values j r × (j ≤ n)
 
-abbrev decreases-loop : tie.decreases-loop
-decreases-loop n values r₀ j₀ r j = n - j
+abbrev decreases-loop-j : tie.decreases-loop-j
+decreases-loop-j n values r₀ j₀ r j = n - j
 
-low : (c : tie.In-loop invariant-loop decreases-loop) → c.before.loop.j < 64
-low c = omega (arith, c.loop-test.true)
+low : (c : tie.In-loop-j invariant-loop-j decreases-loop-j) → c.loop-j.j < 64
+low c = omega (arith, c.loop-j-test.true)
 
-value : (c : tie.In-loop invariant-loop decreases-loop) → get_or c.before.before.args.t1 c.before.loop.j 0 < 64
-value c = c.before.before.requires.at _ c.loop-test.true
+value : (c : tie.In-loop-j invariant-loop-j decreases-loop-j) → get_or c.args.values c.loop-j.j 0 < 64
+value c = c.requires.at _ c.loop-j-test.true
 
 pub numbers_at_spec : {M : Type 1} → statement M
 numbers_at_spec =
     tie.close
     (tie.spec
-    invariant-loop
-    decreases-loop
+    invariant-loop-j
+    decreases-loop-j
     (λ c. (numbers_none _ _, omega arith))
     (λ c. bytes_fit (low c))
     low
@@ -34,5 +34,5 @@ numbers_at_spec =
     value
     (λ c. omega arith)
     (λ c. omega arith)
-    (λ c. (numbers_take c.before.loop.invariant.0 tt (value c) (low c), omega arith))
-    (λ c. numbers_all (omega arith) (omega arith) c.before.loop.invariant.0))
+    (λ c. (numbers_take c.loop-j.invariant.0 tt (value c) (low c), omega arith))
+    (λ c. numbers_all (omega arith) (omega arith) c.loop-j.invariant.0))

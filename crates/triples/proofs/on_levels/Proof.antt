@@ -9,27 +9,27 @@ use Rattle.triples.proofs.Numbers.{levels_more, levels_all}
 use Rattle.triples.proofs.on_levels.Statement.{statement}
 use Rattle.triples.proofs.on_levels.Tie as tie
 
-abbrev invariant-loop : tie.invariant-loop
-invariant-loop n begun ending first second r₀ i₀ r i = Built (OnLevel begun ending first second n) i r × (i ≤ n)
+abbrev invariant-loop-i : tie.invariant-loop-i
+invariant-loop-i n begun ending first second r₀ i₀ r i = Built (OnLevel begun ending first second n) i r × (i ≤ n)
 
-abbrev decreases-loop : tie.decreases-loop
-decreases-loop n begun ending first second r₀ i₀ r i = n - i
+abbrev decreases-loop-i : tie.decreases-loop-i
+decreases-loop-i n begun ending first second r₀ i₀ r i = n - i
 
-low : (c : tie.In-loop invariant-loop decreases-loop) → c.before.loop.i < 64
-low c = omega (arith, c.loop-test.true)
+low : (c : tie.In-loop-i invariant-loop-i decreases-loop-i) → c.loop-i.i < 64
+low c = omega (arith, c.loop-i-test.true)
 
-first : (c : tie.In-loop invariant-loop decreases-loop) → get_or c.before.before.args.t3 c.before.loop.i 0 < 64
-first c = c.before.before.requires.0.at _ c.loop-test.true
+first : (c : tie.In-loop-i invariant-loop-i decreases-loop-i) → get_or c.args.first c.loop-i.i 0 < 64
+first c = c.requires.0.at _ c.loop-i-test.true
 
-second : (c : tie.In-loop invariant-loop decreases-loop) → get_or c.before.before.args.t4 c.before.loop.i 0 < 64
-second c = c.before.before.requires.1.at _ c.loop-test.true
+second : (c : tie.In-loop-i invariant-loop-i decreases-loop-i) → get_or c.args.second c.loop-i.i 0 < 64
+second c = c.requires.1.at _ c.loop-i-test.true
 
 pub on_levels_spec : {M : Type 1} → statement M
 on_levels_spec =
     tie.close
     (tie.spec
-    invariant-loop
-    decreases-loop
+    invariant-loop-i
+    decreases-loop-i
     (λ c. (built_none _, omega arith))
     (λ c. bytes_fit (low c))
     low
@@ -43,5 +43,5 @@ on_levels_spec =
     low
     (λ c. omega arith)
     (λ c. omega arith)
-    (λ c. (levels_more (owned _ _ c.before.before.well-formed.0) c.loop-test.true (low c) c.before.loop.invariant.0, omega arith))
-    (λ c. levels_all (omega arith) c.before.loop.invariant.0))
+    (λ c. (levels_more (owned _ _ c.well_formed.0) c.loop-i-test.true (low c) c.loop-i.invariant.0, omega arith))
+    (λ c. levels_all (omega arith) c.loop-i.invariant.0))

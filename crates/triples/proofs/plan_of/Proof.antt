@@ -6,16 +6,16 @@ pub plan_of_spec : {M : Type 1} → statement M
 plan_of_spec =
     tie.close
     (tie.spec
-    (λ c κs. let p = c.before.before.before.before.before.before.requires in (p.0.0, (p.0.1.0, p.1)))
-    (λ c κs. c.before.before.before.before.before.before.before.before.before.requires.0.0)
+    (λ c κs. let p = c.requires in (p.0.0, (p.0.1.0, p.1)))
+    (λ c κs. c.requires.0.0)
     (λ c κs. tt)
-    (λ c κs. c.before.before.before.before.before.before.before.before.before.before.before.requires.0.1.0)
-    (λ c κs. c.before.before.before.before.before.before.before.before.before.before.before.before.requires.0.1.1)
+    (λ c κs. c.requires.0.1.0)
+    (λ c κs. c.requires.0.1.1)
     (λ c κs. tt)
     (λ c κs. tt)
     (λ c κs. tt)
     (λ c.
     let d = c.before.before.before.before in
-    let levels = d.before.before.before.before.before.levels-of.ensures in
-    plans levels.0 levels.1 d.before.before.turning.ensures d.before.join.ensures d.turning2.ensures c.before.before.before.numbers-at.ensures
-    c.before.before.transposed.ensures c.before.transposed2.ensures c.join2.ensures))
+    let levels = d.levels_of-levels.ensures in
+    plans levels.0 levels.1 d.turning-ends.ensures d.join-left.ensures d.turning-starts.ensures c.numbers_at.ensures
+    c.transposed.ensures c.transposed-2.ensures c.join.ensures))

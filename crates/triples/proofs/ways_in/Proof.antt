@@ -9,6 +9,6 @@ unfolding kind_numbered
 ways_in_spec =
     tie.close
     (tie.spec
-    (λ c κs. (c.before.requires.0, omega arith))
+    (λ c κs. (c.requires.0, omega arith))
     (λ c κs. tt)
-    (λ c. let p = c.before.before.before.requires in ways_in _ p.0 _ p.1 c.before.Moves-of.ensures c.join.ensures))
+    (λ c. let p = c.requires in ways_in _ p.0 _ p.1 c.before.Moves-of.ensures c.join.ensures))

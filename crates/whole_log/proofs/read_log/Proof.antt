@@ -14,12 +14,12 @@ use Rattle.whole_log.proofs.read_log.Statement.{statement}
 use Rattle.whole_log.proofs.read_log.Tie as tie
 
 -- Where the table was good: what its check told, and the words that were lent.
-module _ (c : tie.After-counts) where
+module _ (c : tie.In-Good-2) where
   abbrev entry : tie.Start
   entry = c.before.before.before.before.before.before
 
-  counted : Counted entry.args.table.now c.counts.given.0.0
-  counted = when_good _ _ (sym (ap checked_as c.counts.given.1) ∙ c.before.before.check.ensures)
+  counted : Counted entry.args.table.now c.counts-1.given.0.0
+  counted = when_good _ _ (sym (ap checked_as c.counts-1.given.1) ∙ c.check.ensures)
 
 pub read_log_spec : {M : Type 1} → statement M
 read_log_spec =
@@ -31,23 +31,23 @@ read_log_spec =
     (λ c.
     let d = c.before.before in
     let a = (entry d).args in
-    meets_short _ a.state.now (counted d).well-formed _ (omega (arith, state_size_lem)))
+    meets_short _ a.state-1.now (counted d).well_formed _ (omega (arith, state_size_lem)))
     (λ c.
     let d = c.before.before.before in
     let a = (entry d).args in
-    meets_long _ a.log.now a.state.now (counted d).well-formed (omega (arith, state_size_lem)) (omega (arith, longest_log_lem)))
+    meets_long _ a.log.now a.state-1.now (counted d).well_formed (omega (arith, state_size_lem)) (omega (arith, longest_log_lem)))
     (λ c κs.
     let w = counted c.before.before.before.before in
     ((w.good, (w.states, w.letters)), (omega (arith, state_size_lem), omega (arith, longest_log_lem))))
-    (λ c κs. (omega arith, omega (arith, c.before.before.before.read_all.ensures.1.long)))
+    (λ c κs. (omega arith, omega (arith, c.read_all-answer.ensures.1.long)))
     (λ c.
-    let w = when_refused _ _ (sym (ap checked_as c.before.number.given.1) ∙ c.before.before.before.check.ensures) in
+    let w = when_refused _ _ (sym (ap checked_as c.number-1.given.1) ∙ c.check.ensures) in
     meets_no_table _ _ _ w.0 w.1)
-    (λ c. omega (arith, c.before.before.clear.ensures.long, c.before.before.before.before.before.before.read_all.ensures.1.long))
+    (λ c. omega (arith, c.clear.ensures.long, c.read_all-answer.ensures.1.long))
     (λ c.
     let r = c.before.before.before.before.before.before in
     let d = r.before.before.before.before.before in
     let a = (entry d).args in
-    let long : state_size ≤ length a.state.now = omega (arith, state_size_lem) in
-    meets_read _ a.log.now a.state.now (counted d).well-formed long (omega (arith, longest_log_lem)) r.read_all.ensures.0
-    (clears long r.read_all.ensures.1 (sym state_size_lem) c.before.before.clear.ensures)))
+    let long : state_size ≤ length a.state-1.now = omega (arith, state_size_lem) in
+    meets_read _ a.log.now a.state-1.now (counted d).well_formed long (omega (arith, longest_log_lem)) r.read_all-answer.ensures.0
+    (clears long r.read_all-answer.ensures.1 (sym state_size_lem) c.clear.ensures)))

@@ -8,5 +8,5 @@ byte_at_spec =
     tie.close
     (tie.spec
     (λ c. omega arith)
-    (λ c. omega (arith, c.shared-slice-known.given c.before.args.place))
-    (λ c. (refl, omega (arith, c.shared-slice-known.given c.before.args.place))))
+    (λ c. omega (arith, c.shared_slice_known-1.given c.args.place))
+    (λ c. (refl, omega (arith, c.shared_slice_known-1.given c.args.place))))

@@ -5,5 +5,5 @@ pub heard_spec : {M : Type 1} → statement M
 heard_spec =
     tie.close
     (tie.spec
-    (λ c. rw c.if1.true)
-    (λ c. rw c.if1.false))
+    (λ c. rw c.if-self.true)
+    (λ c. rw c.if-self.false))
