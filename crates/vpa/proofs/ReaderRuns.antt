@@ -52,10 +52,14 @@ module _ {Q Γ : Type 0} (A : Vpa Q Γ) where
 
   came : (j : Kind) (a : ℕ) (k : Reading Q) {q : Q} {τ : List Γ} → Stands A (candidate_by A j a k) q τ → Came k a q τ
   unfolding candidate_by Came letter
+  came plain a nothing s = elim s [ ]
   came plain a (block c R k) {q} {τ} (ground i w) = (w.q, [], plain_move w.q a q, ground i w.was, run_plain w.moved run_done, refl)
   came plain a (block c R k) {q} {τ} (above s o w) = (w.q, τ, plain_move w.q a q, above s o w.was, run_plain w.moved run_done, refl)
+  came opening a nothing s = elim s [ ]
   came opening a (block c R k) (above {x = x} {r = r} {q = q} {γ = γ} {σ = σ} s o w) =
       (x, σ, open_move x a γ q, s, run_open (rw w.alone at o) run_done, refl)
+  came closing b nothing s = elim s [ ]
+  came closing b (block a R nothing) s = elim s [ ]
   came closing b (block a R (block c S k)) {q} (ground i w) =
       (w.x, w.γ ∷ [], close_move w.x b w.γ q, above (ground i w.below) w.opened w.inside, run_close w.closed run_done, refl)
   came closing b (block a R (block c S k)) {q} {τ} (above s o w) =
@@ -80,6 +84,7 @@ data Rooted {Q Γ : Type 0} (A : Vpa Q Γ) : Reading Q → Type 1 where
 
 module _ {Q Γ : Type 0} (A : Vpa Q Γ) where
   rooted_stands : {k : Reading Q} (p q : Q) → Rooted A k → held k p q → (σ : List Γ) × Stands A k q σ
+  rooted_stands p q off w = elim w [ ]
   rooted_stands p q (base f) w = ([], ground p w)
   rooted_stands p q (more f g) w = let t = f p q w in (t.1 ∷ t.2, above t.4 t.3 w)
 
@@ -112,6 +117,7 @@ module _ {Q Γ : Type 0} (A : Vpa Q Γ) where
 
   from_begin : {p : Q} {σ : List Γ} → Stands A (begin A) p σ → A.Initial p × (σ ≡ [])
   from_begin (ground i w) = (rw w.alone at w.begins, refl)
+  from_begin (above s o w) = elim s [ ]
 
   reaches_of_stands : (w : List ℕ) {q : Q} {σ : List Γ} → Stands A (reading_of A w) q σ → Reaches A w q σ
   reaches_of_stands w {q} {σ} s =
@@ -168,6 +174,7 @@ module _ {Q Γ : Type 0} (A : Vpa Q Γ) where
       here (block c R (block e S k)) d = absurd d
 
       there : {k : Reading Q} {f : Q} → Rooted A k → Stands A k f [] → A.Final f → Finished A k
+      there off s e = elim s [ ]
       there {f = f} (base g) (ground i w) e = record { i = i; f = f; pair = w; begins = g i f w; ends = e }
       there {f = f} (more g h) (ground i w) e = nowhere (g i f w).4
         where

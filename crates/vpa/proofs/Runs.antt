@@ -31,12 +31,17 @@ module _ {Q Γ : Type 0} (A : Vpa Q Γ) where
   run_over ρ (run_open h t) = run_open h (run_over ρ t)
   run_over ρ (run_close h t) = run_close h (run_over ρ t)
 
-  -- Equal moves from one configuration end alike.
+  -- Equal moves from one configuration end alike. Both configurations and both lists have names of their own, since a run is matched at free indices.
+  same_end_at : {p p' q q' : Q} {σ σ' τ τ' : List Γ} {u u' : List (Move Q Γ)}
+      → Run A p σ u q τ → Run A p' σ' u' q' τ' → p ≡ p' → σ ≡ σ' → u ≡ u' → (q ≡ q') × (τ ≡ τ')
+  same_end_at run_done run_done e s w = (e, s)
+  same_end_at (run_plain h t) (run_plain h' t') e s w = same_end_at t t' (cc) s (cc)
+  same_end_at (run_open h t) (run_open h' t') e s w = same_end_at t t' (cc) (cc) (cc)
+  same_end_at (run_close h t) (run_close h' t') e s w = same_end_at t t' (cc) (cc) (cc)
+  same_end_at r r' e s w = absurd (let z : ◌≡◌ {A = ℕ} 0 1 = cc in omega arith)
+
   pub same_end : {p q q' : Q} {σ τ τ' : List Γ} {u : List (Move Q Γ)} → Run A p σ u q τ → Run A p σ u q' τ' → (q ≡ q') × (τ ≡ τ')
-  same_end run_done run_done = (refl, refl)
-  same_end (run_plain h t) (run_plain h' t') = same_end t t'
-  same_end (run_open h t) (run_open h' t') = same_end t t'
-  same_end (run_close h t) (run_close h' t') = same_end t t'
+  same_end r r' = same_end_at r r' refl refl refl
 
 -- What a run that ends on the empty stack has ahead of it: a nested part, then the close of the top mark, and so on down.
 data Descends {Q Γ : Type 0} (A : Vpa Q Γ) : Q → List Γ → List (Move Q Γ) → Q → Type 0 where

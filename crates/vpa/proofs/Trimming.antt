@@ -1,6 +1,7 @@
 -- Trimming, over any states and marks: the trimmed automaton has the accepting runs of its original, one for one, and is weakly reduced.
 use Prim.Native.Nat.{ℕ}
-use mathlib.Core.Path.{◌≡◌, refl, ap, ap₂, ◌∙◌, subst}
+use native.Mathlib.Omega.{arith}
+use mathlib.Core.Path.{◌≡◌, refl, sym, ap, ap₂, ◌∙◌, subst}
 use mathlib.Core.List.{List, [], ◌∷◌, ◌++◌, map, map-append}
 use mathlib.Core.Logic.{◌↔◌}
 use Rattle.vpa.specs.Automaton.{Move, plain_move, open_move, close_move, rename, Vpa, Run, run_done, run_plain, run_open, run_close, Accepting, Accepts, Completes, SameRuns, WeaklyReduced, spells}
@@ -213,36 +214,46 @@ over (plain_move (triple o q p) a (triple o' q' p') ∷ ns) = over_plain (over n
 over (open_move (triple o q p) a (mark_on γ oᵐ qᵐ) (triple o' q' p') ∷ ns) = over_open (over ns)
 over (close_move (triple o q p) a (mark_on γ oᵐ qᵐ) (triple o' q' p') ∷ ns) = over_close (over ns)
 
+over_is : {Q Γ : Type 0} {ms : List (Move Q Γ)} {ns : TrimmedMoves Q Γ} → Over ms ns → ms ≡ project ns
+unfolding rename now bare
+over_is over_none = refl
+over_is (over_plain v) = ap₂ (λ m us. m ∷ us) refl (over_is v)
+over_is (over_open v) = ap₂ (λ m us. m ∷ us) refl (over_is v)
+over_is (over_close v) = ap₂ (λ m us. m ∷ us) refl (over_is v)
+
 -- Stacks, and configurations, that agree but for the states in which their levels are to end.
 data AlikeStacks {Q Γ : Type 0} : List (MarkOn Q Γ) → List (MarkOn Q Γ) → Type 0 where
   alike_none : AlikeStacks [] []
-  alike_more : {γ : Γ} {o q₁ q₂ : Q} {τ₁ τ₂ : List (MarkOn Q Γ)} → AlikeStacks τ₁ τ₂ → AlikeStacks (mark_on γ o q₁ ∷ τ₁) (mark_on γ o q₂ ∷ τ₂)
+  alike_more : {γ₁ γ₂ : Γ} {o₁ o₂ q₁ q₂ : Q} {τ₁ τ₂ : List (MarkOn Q Γ)}
+      → γ₁ ≡ γ₂ → o₁ ≡ o₂ → AlikeStacks τ₁ τ₂ → AlikeStacks (mark_on γ₁ o₁ q₁ ∷ τ₁) (mark_on γ₂ o₂ q₂ ∷ τ₂)
 
 data Alike {Q Γ : Type 0} : Triple Q → List (MarkOn Q Γ) → Triple Q → List (MarkOn Q Γ) → Type 0 where
-  alike : {o q₁ q₂ p : Q} {τ₁ τ₂ : List (MarkOn Q Γ)} → AlikeStacks τ₁ τ₂ → Alike (triple o q₁ p) τ₁ (triple o q₂ p) τ₂
+  alike : {o₁ o₂ q₁ q₂ p₁ p₂ : Q} {τ₁ τ₂ : List (MarkOn Q Γ)}
+      → o₁ ≡ o₂ → p₁ ≡ p₂ → AlikeStacks τ₁ τ₂ → Alike (triple o₁ q₁ p₁) τ₁ (triple o₂ q₂ p₂) τ₂
 
 module _ {Q Γ : Type 0} (A : Vpa Q Γ) where
   -- Two runs over the same moves from alike configurations to accepting ends are one: the ends decide the levels, from the last move back.
   over_once : {c₁ c₂ d₁ d₂ : Triple Q} {τ₁ τ₂ : List (MarkOn Q Γ)} {ms : List (Move Q Γ)} {ns₁ ns₂ : TrimmedMoves Q Γ}
-      → Over ms ns₁ → Over ms ns₂ → Run (trim A) c₁ τ₁ ns₁ d₁ [] → Run (trim A) c₂ τ₂ ns₂ d₂ [] → TrimmedFinal A d₁ → TrimmedFinal A d₂ → Alike c₁ τ₁ c₂ τ₂
+      → Run (trim A) c₁ τ₁ ns₁ d₁ [] → Run (trim A) c₂ τ₂ ns₂ d₂ [] → Over ms ns₁ → Over ms ns₂ → TrimmedFinal A d₁ → TrimmedFinal A d₂ → Alike c₁ τ₁ c₂ τ₂
       → (c₁ ≡ c₂) × (τ₁ ≡ τ₂) × (ns₁ ≡ ns₂)
-  over_once over_none over_none run_done run_done (trimmed_final _ _ _) (trimmed_final _ _ _) (alike alike_none) = (refl, refl, refl)
-  over_once (over_plain v₁) (over_plain v₂) (run_plain (trimmed_plain _ _ _) t₁) (run_plain (trimmed_plain _ _ _) t₂) f₁ f₂ (alike k) =
-      let e = over_once v₁ v₂ t₁ t₂ f₁ f₂ (alike k) in ((cc), (cc), (cc))
-  over_once (over_open v₁) (over_open v₂) (run_open (trimmed_open _ _ _ _) t₁) (run_open (trimmed_open _ _ _ _) t₂) f₁ f₂ (alike k) =
-      let e = over_once v₁ v₂ t₁ t₂ f₁ f₂ (alike (alike_more k)) in ((cc), (cc), (cc))
-  over_once (over_close v₁) (over_close v₂) (run_close (trimmed_close _ _ _ _ _) t₁) (run_close (trimmed_close _ _ _ _ _) t₂) f₁ f₂ (alike (alike_more k)) =
-      let e = over_once v₁ v₂ t₁ t₂ f₁ f₂ (alike k) in (refl, (cc), (cc))
+  unfolding rename now bare
+  over_once run_done run_done over_none over_none (trimmed_final _ _ _) (trimmed_final _ _ _) (alike b e k) = ((cc), refl, refl)
+  over_once (run_plain (trimmed_plain _ _ _) t₁) (run_plain (trimmed_plain _ _ _) t₂) (over_plain v₁) (over_plain v₂) f₁ f₂ (alike b e k) =
+      let i = over_once t₁ t₂ v₁ v₂ f₁ f₂ (alike b refl k) in ((cc), (cc), (cc))
+  over_once (run_open (trimmed_open _ _ _ _) t₁) (run_open (trimmed_open _ _ _ _) t₂) (over_open v₁) (over_open v₂) f₁ f₂ (alike b e k) =
+      let i = over_once t₁ t₂ v₁ v₂ f₁ f₂ (alike refl refl (alike_more refl b k)) in ((cc), (cc), (cc))
+  over_once (run_close (trimmed_close _ _ _ _ _) t₁) (run_close (trimmed_close _ _ _ _ _) t₂) (over_close v₁) (over_close v₂) f₁ f₂ (alike b e (alike_more g h k)) =
+      let i = over_once t₁ t₂ v₁ v₂ f₁ f₂ (alike h refl k) in ((cc), (cc), (cc))
+  over_once r₁ r₂ v₁ v₂ f₁ f₂ k = absurd (let e = sym (over_is v₁) ∙ over_is v₂ in let z : ◌≡◌ {A = ℕ} 0 1 = cc in omega arith)
 
   alike_initial : {i₁ i₂ : Triple Q} → TrimmedInitial A i₁ → TrimmedInitial A i₂ → now i₁ ≡ now i₂ → Alike {Γ = Γ} i₁ [] i₂ []
   unfolding now
-  alike_initial (trimmed_initial {o = o₁} {q = q₁} _ _ _) (trimmed_initial {q = q₂} _ _ _) e =
-      subst (λ x. Alike {Γ = Γ} (triple o₁ q₁ o₁) [] (triple x q₂ x) []) e (alike alike_none)
+  alike_initial (trimmed_initial _ _ _) (trimmed_initial _ _ _) e = alike e e alike_none
 
   accepting_once : (i₁ i₂ f₁ f₂ : Triple Q) (ns₁ ns₂ : TrimmedMoves Q Γ)
       → Accepting (trim A) i₁ ns₁ f₁ → Accepting (trim A) i₂ ns₂ f₂ → now i₁ ≡ now i₂ → project ns₁ ≡ project ns₂ → (i₁ ≡ i₂) × (ns₁ ≡ ns₂)
   accepting_once i₁ i₂ f₁ f₂ ns₁ ns₂ r₁ r₂ e k =
-      let u = over_once (subst (λ ms. Over ms ns₁) k (over ns₁)) (over ns₂) r₁.runs r₂.runs r₁.ends r₂.ends (alike_initial r₁.begins r₂.begins e) in
+      let u = over_once r₁.runs r₂.runs (subst (λ ms. Over ms ns₁) k (over ns₁)) (over ns₂) r₁.ends r₂.ends (alike_initial r₁.begins r₂.begins e) in
       (u.0, u.2)
 
   -- The accepting runs of the trimmed automaton are those of the original, one for one, with the same letters and corresponding ends.
