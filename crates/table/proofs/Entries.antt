@@ -34,6 +34,7 @@ module _ {X : Type 0} (d : X) where
     rising_sorted trans (x ∷ xs) h = sorted_more (above x xs h) (rising_sorted trans xs (λ k l. h (suc k) (omega arith)))
       where
         above : (x : X) (xs : List X) → Rising (x ∷ xs) → (y : X) → Memᴰ y xs → R x y
+        above x [] h y m = elim m [ ]
         above x (z ∷ zs) h y (Memᴰ.head e) = subst (R x) (sym e) (h 0 (omega arith))
         above x (z ∷ zs) h y (Memᴰ.tail m) = trans x z y (h 0 (omega arith)) (above z zs (λ k l. h (suc k) (omega arith)) y m)
 

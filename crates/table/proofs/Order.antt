@@ -18,6 +18,7 @@ entry_of_string (lower l) = inl l
 entry_of_string (alike (lower l)) = inr (refl, inl l)
 entry_of_string (alike (alike (lower l))) = inr (refl, inr (refl, inl l))
 entry_of_string (alike (alike (alike (lower l)))) = inr (refl, inr (refl, inr (refl, l)))
+entry_of_string (alike (alike (alike (alike b)))) = elim b [ ]
 
 string_of_entry : {a b c d a' b' c' d' : ℕ}
     → EntryBefore (entry a b c d) (entry a' b' c' d') → StringBefore (a ∷ b ∷ c ∷ d ∷ []) (a' ∷ b' ∷ c' ∷ d' ∷ [])
@@ -49,6 +50,7 @@ number_of_string lb lc ld (lower l) = omega arith
 number_of_string lb lc ld (alike (lower l)) = omega arith
 number_of_string lb lc ld (alike (alike (lower l))) = omega arith
 number_of_string lb lc ld (alike (alike (alike (lower l)))) = omega arith
+number_of_string lb lc ld (alike (alike (alike (alike b)))) = elim b [ ]
 
 -- One byte more in front settles the order, unless it is alike.
 front : {a b : ℕ} {u v : List ℕ} → a ≤ b → (a ≡ b → StringBefore u v) → StringBefore (a ∷ u) (b ∷ v)

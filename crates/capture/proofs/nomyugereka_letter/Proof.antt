@@ -19,9 +19,9 @@ nomyugereka_letter_spec =
     (λ c κs. search rules)
     (λ c.
     let args = c.args in
-    let on : List ℕ → Reply = λ words. letter_call args.table.now words args.letter-heard in (
-      few_answer args.table.now args.state-1.now on (omega (arith, state_size_lem)) c.too_short.ensures,
-      few_kept args.table.now args.state-1.now on (omega (arith, state_size_lem)),
+    let on : List ℕ → Reply = λ words. letter_call args.table.now words args.letter in (
+      few_answer args.table.now args.state.now on (omega (arith, state_size_lem)) c.too_short.ensures,
+      few_kept args.table.now args.state.now on (omega (arith, state_size_lem)),
     ))
     (λ c κs. omega (arith, state_size_lem))
     (λ c. search rules)
@@ -31,13 +31,13 @@ nomyugereka_letter_spec =
     (λ c κs.
     let args = c.args in
     let value = ap value_of c.letter-heard.ensures.0 in
-    omega (arith, value, longest_log_lem, letter_value args.table.now c.words_in-words.result args.letter-heard))
+    omega (arith, value, longest_log_lem, letter_value args.table.now c.words_in-words.result args.letter))
     (λ c. search rules)
     (λ c.
     let args = c.args in
-    let on : List ℕ → Reply = λ words. letter_call args.table.now words args.letter-heard in
+    let on : List ℕ → Reply = λ words. letter_call args.table.now words args.letter in
     let words = c.words_in-words.ensures in
     let heard = c.letter-heard.ensures in (
-      enough_answer args.table.now args.state-1.now on (omega (arith, state_size_lem)) words heard.0 c.heard.ensures,
-      enough_written args.table.now args.state-1.now on (omega (arith, state_size_lem)) words heard.1 c.put.ensures,
+      enough_answer args.table.now args.state.now on (omega (arith, state_size_lem)) words heard.0 c.heard.ensures,
+      enough_written args.table.now args.state.now on (omega (arith, state_size_lem)) words heard.1 c.put.ensures,
     )))

@@ -18,8 +18,8 @@ nomyugereka_read_log_spec =
     (λ c.
     let args = c.args in
     let on = log_call args.table.now args.log.now in (
-      few_answer args.table.now args.state-1.now on (omega (arith, state_size_lem)) c.too_short.ensures,
-      few_kept args.table.now args.state-1.now on (omega (arith, state_size_lem)),
+      few_answer args.table.now args.state.now on (omega (arith, state_size_lem)) c.too_short.ensures,
+      few_kept args.table.now args.state.now on (omega (arith, state_size_lem)),
     ))
     (λ c κs. omega (arith, state_size_lem))
     (λ c. search rules)
@@ -36,6 +36,6 @@ nomyugereka_read_log_spec =
     let on = log_call args.table.now args.log.now in
     let words = c.words_in-words.ensures in
     let heard = c.before.before.before.before.before.before.before.read_Log.ensures in (
-      enough_answer args.table.now args.state-1.now on (omega (arith, state_size_lem)) words heard.0 c.heard.ensures,
-      enough_written args.table.now args.state-1.now on (omega (arith, state_size_lem)) words heard.1 c.put.ensures,
+      enough_answer args.table.now args.state.now on (omega (arith, state_size_lem)) words heard.0 c.heard.ensures,
+      enough_written args.table.now args.state.now on (omega (arith, state_size_lem)) words heard.1 c.put.ensures,
     )))

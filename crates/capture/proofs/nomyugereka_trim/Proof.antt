@@ -18,7 +18,7 @@ nomyugereka_trim_spec =
     (λ c κs.
     let args = c.args in
     let counted = sym c.trim.ensures.0 ∙ ap trimmed_as c.count-1.given.1 in
-    omega (arith, trim_count args.table.now args.scratch-1.now args.out-1.now counted))
+    omega (arith, trim_count args.table.now args.scratch.now args.out.now counted))
     (λ c. search rules)
     (λ c. search rules)
     (λ c.

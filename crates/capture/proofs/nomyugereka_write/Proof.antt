@@ -18,7 +18,7 @@ nomyugereka_write_spec =
     (λ c κs.
     let args = c.args in
     let counted = sym c.write.ensures.0 ∙ ap written_as c.count-1.given.1 in
-    omega (arith, write_count args.table.now args.out-1.now counted))
+    omega (arith, write_count args.table.now args.out.now counted))
     (λ c. search rules)
     (λ c.
     let wrote = c.write.ensures in

@@ -22,10 +22,10 @@ room : (c : tie.After-place-top) → c.place-top.result + 65 ≤ length (begin c
 room c = let p = (begin c).requires in omega (arith, block_place_lem (begin c).args.head.depth, c.place-top.ensures.0, p.0.1.1.0, p.1.0, deepest_is, state_size_lem)
 
 joined : (c : tie.After-join_lent-pairs) → let s = (begin (place c)).args in
-    HoldsExactly c.join_lent-pairs.result (Joined (rows_in s.state-1.now s.head.depth) (letter_rows s.moves.now s.letter))
+    HoldsExactly c.join_lent-pairs.result (Joined (rows_in s.state.now s.head.depth) (letter_rows s.moves.now s.letter))
 joined c =
     let s = (begin (place c)).args in
-    rw (lent_rows s.state-1.now s.head.depth (place c).place-top.ensures.0, lent_letter s.moves.now s.letter) at c.join_lent-pairs.ensures
+    rw (lent_rows s.state.now s.head.depth (place c).place-top.ensures.0, lent_letter s.moves.now s.letter) at c.join_lent-pairs.ensures
 
 pub plain_spec : {M : Type 1} → statement M
 plain_spec =
@@ -46,7 +46,7 @@ plain_spec =
     (λ c. omega arith)
     (λ c κs.
     let s = begin c.before.before.before in
-    let p = s.requires in
+    let p = s.pre in
     rw (lent_rows s.args.state.now s.args.head.depth c.place-top.ensures.0, lent_letter s.args.moves.now s.args.letter)
     (p.0.0, (p.1.1.0, omega (arith, letter_long s.args.moves.now p.1.1.1 p.0.1.0))))
     (λ c κs. tt)

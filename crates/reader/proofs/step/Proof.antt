@@ -48,37 +48,37 @@ step_spec =
     (λ c. omega arith)
     (λ c κs.
     let s = begin c.before.before.before in
-    let r = s.requires.1.1.0 in
-    ((omega (arith, small s, s.requires.0.1), (few s, (r.low, (taken s).more))), (r.long, (rows s, s.requires.1.0.0.long))))
+    let r = s.pre.1.1.0 in
+    ((omega (arith, small s, s.pre.0.1), (few s, (r.low, (taken s).more))), (r.long, (rows s, s.pre.1.0.0.long))))
     (λ c. omega arith)
     (λ c κs.
     let s = begin c.before.before.before in
-    ((omega (arith, small s, s.requires.0.1), (few s, ((taken s).low (opens c.before), (taken s).more))), (s.requires.1.1.0.long, (rows s, s.requires.1.0.0.long))))
+    ((omega (arith, small s, s.pre.0.1), (few s, ((taken s).low (opens c.before), (taken s).more))), (s.pre.1.1.0.long, (rows s, s.pre.1.0.0.long))))
     (λ c. omega arith)
     (λ c κs.
     let s = begin c.before.before.before in
-    ((s.requires.0.0, (s.requires.0.1, s.requires.1.0.1)), (s.requires.1.1.0, (closes c.before, (taken s).more))))
+    ((s.pre.0.0, (s.pre.0.1, s.pre.1.0.1)), (s.pre.1.1.0, (closes c.before, (taken s).more))))
     (λ c. omega arith)
     (λ c κs. tt)
     (λ c. omega arith)
     (λ c.
     let d = c.before.before.before.before in
     let s = begin d.before.before in
-    let p = s.requires in
+    let p = s.pre in
     plain_step _ (good_table _ p.0.0) (small s) _ _ p.1.1.0 p.1.1.1.0 p.1.0.0 (few s)
     (told d.before.before (sym (ap kind_as d.enum_told-1.given.1))) c.plain.ensures)
     (λ c. omega arith)
     (λ c.
     let d = c.before.before.before.before in
     let s = begin d.before.before in
-    let p = s.requires in
+    let p = s.pre in
     open_step _ (good_table _ p.0.0) (small s) _ _ p.1.1.0 p.1.1.1.0 p.1.0.0 (few s) (taken s).own (opens d) ((taken s).low (opens d))
     c.before.before.«open».ensures)
     (λ c. omega arith)
     (λ c.
     let d = c.before.before.before.before in
     let s = begin d.before.before in
-    let p = s.requires in
+    let p = s.pre in
     close_step _ (good_table _ p.0.0) (small s) _ _ p.1.1.0 p.1.1.1.0 (closes d) c.close.ensures)
     (λ c.
     let k = c.before.before.before in

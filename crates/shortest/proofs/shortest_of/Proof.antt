@@ -21,7 +21,7 @@ found : (c : tie.After-least_top-top) →
     let a = f.args in
     let t = parse a.table.now in
     let s = f.find.new.1.1.1.1.0 in
-    IsTable t × Least t s × LeastTop t s (state_count t) c.least_top-top.result × KeptFrom 16384 a.scratch-1.now s
+    IsTable t × Least t s × LeastTop t s (state_count t) c.least_top-top.result × KeptFrom 16384 a.scratch.now s
 found c =
     let f = c.before.before.before.before in
     let p = f.requires in

@@ -14,5 +14,5 @@ checked_moves_spec =
     (λ c.
     let p = c.moves_place-place in
     let w = c.word_at in
-    let e : p.result-1 + 4 * w.result-1 - p.result-1 ≡ 4 * w.result-1 = omega arith in
+    let e : p.result + 4 * w.result - p.result ≡ 4 * w.result = omega arith in
     rw (e, p.ensures.0, w.ensures.0)))

@@ -16,6 +16,6 @@ unfolding kind_numbered
 kind_numbered_spec =
     tie.close
     (tie.spec
-    (λ c. rw c.match.keys1)
-    (λ c. rw c.match.keys2)
-    (λ c. rw (closing_kind _ c.match.rest.0.1 c.match.rest.1)))
+    (λ c. rw c.in-0.is)
+    (λ c. rw c.in-1.is)
+    (λ c. rw (closing_kind _ c.in_default.in_default-own.rest.0.1 c.in_default.in_default-own.rest.1)))

@@ -14,11 +14,11 @@ write_spec =
     (λ c. simp (c.verdict-number.ensures, ne_eqb _ _ c.if-number-ne0.true) (refl, refl))
     (λ c.
     let a = c.args in
-    let short : length a.out-1.now < length a.table.now = omega arith in
+    let short : length a.out.now < length a.table.now = omega arith in
     simp (c.verdict-number.ensures, eq-eqb _ _ c.if-number-ne0.false, lt-ltb _ _ short) (refl, refl))
     (λ c κs. omega arith) (λ c. omega arith)
     (λ c.
     let b = c.before.before.before.before in
     let a = b.args in
-    let room : length a.table.now ≤ length a.out-1.now = omega arith in
+    let room : length a.table.now ≤ length a.out.now = omega arith in
     simp (b.verdict-number.ensures, eq-eqb _ _ b.if-number-ne0.false, le-ltb _ _ room) (refl, c.copy.ensures)))

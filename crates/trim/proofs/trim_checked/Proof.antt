@@ -12,7 +12,7 @@ use Rattle.trim.proofs.trim_checked.Tie as tie
 -- What was listed are the rows of the trimmed states.
 listed : (c : tie.After-list_states-count) →
     let a = c.args in
-    Appended 64 (trio_rows (trim_states (parse a.table.now))) a.scratch-1.now 0 c.list_states-count.new.1.1.0 c.list_states-count.result
+    Appended 64 (trio_rows (trim_states (parse a.table.now))) a.scratch.now 0 c.list_states-count.new.1.1.0 c.list_states-count.result
 listed c =
     let d = c.before.before in
     states_listed _ d.requires.0.good d.balanced_pairs-balanced.ensures d.live_levels-live.ensures c.list_states-count.ensures

@@ -12,7 +12,7 @@ use Rattle.triples.proofs.list_marks_of.Tie as tie
 -- What was listed are the rows of the trimmed marks.
 listed : (c : tie.After-list_openers-total) →
     let a = c.args in
-    Appended 64 (trio_rows (marks_of (parse a.table.now) a.mark)) a.scratch-1.now a.ways.count c.list_openers-total.new.0 c.list_openers-total.result
+    Appended 64 (trio_rows (marks_of (parse a.table.now) a.mark)) a.scratch.now a.ways.count c.list_openers-total.new.0 c.list_openers-total.result
 listed c =
     let d = c.before.before in
     let p = d.requires in

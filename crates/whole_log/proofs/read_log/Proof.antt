@@ -31,11 +31,11 @@ read_log_spec =
     (λ c.
     let d = c.before.before in
     let a = (entry d).args in
-    meets_short _ a.state-1.now (counted d).well_formed _ (omega (arith, state_size_lem)))
+    meets_short _ a.state.now (counted d).well_formed _ (omega (arith, state_size_lem)))
     (λ c.
     let d = c.before.before.before in
     let a = (entry d).args in
-    meets_long _ a.log.now a.state-1.now (counted d).well_formed (omega (arith, state_size_lem)) (omega (arith, longest_log_lem)))
+    meets_long _ a.log.now a.state.now (counted d).well_formed (omega (arith, state_size_lem)) (omega (arith, longest_log_lem)))
     (λ c κs.
     let w = counted c.before.before.before.before in
     ((w.good, (w.states, w.letters)), (omega (arith, state_size_lem), omega (arith, longest_log_lem))))
@@ -48,6 +48,6 @@ read_log_spec =
     let r = c.before.before.before.before.before.before in
     let d = r.before.before.before.before.before in
     let a = (entry d).args in
-    let long : state_size ≤ length a.state-1.now = omega (arith, state_size_lem) in
-    meets_read _ a.log.now a.state-1.now (counted d).well_formed long (omega (arith, longest_log_lem)) r.read_all-answer.ensures.0
+    let long : state_size ≤ length a.state.now = omega (arith, state_size_lem) in
+    meets_read _ a.log.now a.state.now (counted d).well_formed long (omega (arith, longest_log_lem)) r.read_all-answer.ensures.0
     (clears long r.read_all-answer.ensures.1 (sym state_size_lem) c.clear.ensures)))
