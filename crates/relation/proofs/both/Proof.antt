@@ -24,8 +24,8 @@ both_spec =
     (λ c.
     let g = c.well_formed in
     let a = c.args in
-    let fits = both_fits {r = a.t1} a.t2 (owned _ _ g.0) c.loop-j.j in
-    (omega arith, built_more fits c.loop-j-test.true c.loop-j.invariant.1 (both_row a.t1 a.t2 c.loop-j.j)))
+    let fits = both_fits {r = a.r} a.s (owned _ _ g.0) c.loop-j.j in
+    (omega arith, built_more fits c.loop-j-test.true c.loop-j.invariant.1 (both_row a.r a.s c.loop-j.j)))
     (λ c.
     let g = c.well_formed in
     built_all (omega arith) (λ j k e. (holds_inside (owned _ _ g.0) e.first).0) c.loop-j.invariant.1))

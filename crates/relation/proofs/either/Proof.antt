@@ -25,8 +25,8 @@ either_spec =
     (λ c.
     let g = c.well_formed in
     let a = c.args in
-    let fits = either_fits {r = a.t1} {s = a.t2} (owned _ _ g.0) (owned _ _ g.1.0) c.loop-j.j in
-    (omega arith, built_more fits c.loop-j-test.true c.loop-j.invariant.1 (either_row a.t1 a.t2 c.loop-j.j)))
+    let fits = either_fits {r = a.r} {s = a.s} (owned _ _ g.0) (owned _ _ g.1.0) c.loop-j.j in
+    (omega arith, built_more fits c.loop-j-test.true c.loop-j.invariant.1 (either_row a.r a.s c.loop-j.j)))
     (λ c.
     let g = c.well_formed in
     built_all (omega arith) (λ j k e. ⊎_elim (λ h. (holds_inside (owned _ _ g.0) h).0) (λ h. (holds_inside (owned _ _ g.1.0) h).0) e.is) c.loop-j.invariant.1))

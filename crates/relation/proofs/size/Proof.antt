@@ -19,7 +19,7 @@ is : (c : tie.In-loop-j invariant-loop-j decreases-loop-j) → IsRelation c.args
 is c = owned _ _ c.well_formed.0
 
 row : (c : tie.In-loop-j invariant-loop-j decreases-loop-j) → ones (get_or c.args.r c.loop-j.j 0) ≤ 64
-row c = ones-le 64 _ ((is c).ranges c.loop-j.j)
+row c = ones-le 64 _ ((is c).fits c.loop-j.j)
 
 pub size_spec : {M : Type 1} → statement M
 size_spec =
