@@ -18,13 +18,13 @@ nomyugereka_balance_spec =
     (λ c. search rules)
     (λ c.
     let args = c.args in
-    let e = sym (ap weighed_as c.number-1.given.1) ∙ c.balance.ensures in (
+    let e = sym (ap weighed_as c.in-Refused.is) ∙ c.balance.ensures in (
       c.refused.ensures ∙ ap weighed_number e,
       (ap (λ x. balance_after x args.balance.now) e, ap (λ x. lowest_after x args.lowest.now) e),
     ))
     (λ c.
     let args = c.args in
-    let e = sym (ap weighed_as c.tally-1.given.1) ∙ c.balance.ensures in
+    let e = sym (ap weighed_as c.in-Tally.is) ∙ c.balance.ensures in
     let ranges = c.struct_told-1.given in (
       ap weighed_number e,
       (

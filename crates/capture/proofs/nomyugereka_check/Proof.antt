@@ -13,5 +13,5 @@ nomyugereka_check_spec =
     (λ c. search rules)
     (λ c κs. search rules)
     (λ c. search rules)
-    (λ c. c.refused.ensures ∙ ap check_number (sym (ap checked_as c.number-1.given.1) ∙ c.check.ensures))
-    (λ c. ap check_number (sym (ap checked_as c.enum_told-1.given.1) ∙ c.check.ensures)))
+    (λ c. c.refused.ensures ∙ ap check_number (sym (ap checked_as c.in-Refused.is) ∙ c.check.ensures))
+    (λ c. ap check_number (sym (ap checked_as c.in-Good.is) ∙ c.check.ensures)))

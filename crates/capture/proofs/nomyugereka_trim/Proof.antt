@@ -17,15 +17,15 @@ nomyugereka_trim_spec =
     (λ c. search rules)
     (λ c κs.
     let args = c.args in
-    let counted = sym c.trim.ensures.0 ∙ ap trimmed_as c.count-1.given.1 in
+    let counted = sym c.trim.ensures.0 ∙ ap trimmed_as c.in-Bytes.is in
     omega (arith, trim_count args.table.now args.scratch.now args.out.now counted))
     (λ c. search rules)
     (λ c. search rules)
     (λ c.
     let trimmed = c.trim.ensures in
-    (c.refused.ensures ∙ ap written_number (sym (ap trimmed_as c.number-1.given.1) ∙ trimmed.0), trimmed.1))
+    (c.refused.ensures ∙ ap written_number (sym (ap trimmed_as c.in-Refused.is) ∙ trimmed.0), trimmed.1))
     (λ c. search rules)
     (λ c. search rules)
     (λ c.
     let trimmed = c.trim.ensures in
-    (c.written.ensures ∙ ap written_number (sym (ap trimmed_as c.count-1.given.1) ∙ trimmed.0), trimmed.1)))
+    (c.written.ensures ∙ ap written_number (sym (ap trimmed_as c.in-Bytes.is) ∙ trimmed.0), trimmed.1)))

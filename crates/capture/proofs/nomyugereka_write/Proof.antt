@@ -17,13 +17,13 @@ nomyugereka_write_spec =
     (λ c. search rules)
     (λ c κs.
     let args = c.args in
-    let counted = sym c.write.ensures.0 ∙ ap written_as c.count-1.given.1 in
+    let counted = sym c.write.ensures.0 ∙ ap written_as c.in-Bytes.is in
     omega (arith, write_count args.table.now args.out.now counted))
     (λ c. search rules)
     (λ c.
     let wrote = c.write.ensures in
-    (c.refused.ensures ∙ ap written_number (sym (ap written_as c.number-1.given.1) ∙ wrote.0), wrote.1))
+    (c.refused.ensures ∙ ap written_number (sym (ap written_as c.in-Refused.is) ∙ wrote.0), wrote.1))
     (λ c. search rules)
     (λ c.
     let wrote = c.write.ensures in
-    (c.written.ensures ∙ ap written_number (sym (ap written_as c.count-1.given.1) ∙ wrote.0), wrote.1)))
+    (c.written.ensures ∙ ap written_number (sym (ap written_as c.in-Bytes.is) ∙ wrote.0), wrote.1)))

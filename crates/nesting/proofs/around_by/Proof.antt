@@ -10,4 +10,4 @@ around_by_spec =
     (λ c κs. tt)
     (λ c κs. (c.requires.0, c.requires.1.1))
     (λ c κs. tt)
-    (λ c. around_by c.before.before.before.Moves-of.ensures c.join.ensures c.moves_of-2.ensures c.join-2.ensures))
+    (λ c. around_by c.moves_of.ensures c.join.ensures c.moves_of-2.ensures c.join-2.ensures))

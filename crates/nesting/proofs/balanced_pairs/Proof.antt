@@ -27,10 +27,8 @@ balanced_pairs_spec =
     (λ c κs. tt)
     (λ c κs. tt)
     (λ c.
-    let d = c.before.before.before in
-    let i = d.loop-s.invariant in
-    pairs_done _ (good_table _ d.requires.good) i.0 (owned _ _ d.pairs_round-s.type_inv) i.1 d.pairs_round-s.ensures (omega arith))
+    let i = c.loop-s.invariant in
+    pairs_done _ (good_table _ c.requires.good) i.0 (owned _ _ c.pairs_round-s.type_inv) i.1 c.pairs_round-s.ensures (omega arith))
     (λ c. larger (pair_round_keeps c.pairs_round-s.ensures) (λ e. c.if-size.false (omega arith)))
     (λ c.
-    let d = c.before.before.before in
-    (owned _ _ d.pairs_round-s.type_inv, pairs_more _ (good_table _ d.requires.good) d.loop-s.invariant.1 d.pairs_round-s.ensures)))
+    (owned _ _ c.pairs_round-s.type_inv, pairs_more _ (good_table _ c.requires.good) c.loop-s.invariant.1 c.pairs_round-s.ensures)))

@@ -13,4 +13,4 @@ first_pairs_spec =
     (λ c κs. omega (arith, c.requires.1, (good_storable _ c.requires.0).states))
     (λ c κs. (c.requires.0, omega arith))
     (λ c κs. tt)
-    (λ c. pair_start c.requires.1 c.identity.ensures c.before.Moves-of.ensures c.either.ensures))
+    (λ c. pair_start c.requires.1 c.identity.ensures c.moves_of.ensures c.either.ensures))

@@ -32,15 +32,11 @@ live_levels_spec =
     (λ c κs. tt)
     (λ c κs. tt)
     (λ c.
-    let d = c.before.before.before.before in
-    let i = d.loop-balanced.invariant in
-    let t = d.before.before.before in
-    let p = t.requires in
-    levels_done _ (good_table _ p.0) (held_pairs _ p.0 p.1.1) t.transposed-back.ensures i.0 (owned _ _ d.levels_round-more.type_inv) i.1 d.levels_round-more.ensures (omega arith)
+    let i = c.loop-balanced.invariant in
+    let p = c.requires in
+    levels_done _ (good_table _ p.0) (held_pairs _ p.0 p.1.1) c.transposed-back.ensures i.0 (owned _ _ c.levels_round-more.type_inv) i.1 c.levels_round-more.ensures (omega arith)
     (owned _ _ c.transposed.type_inv) c.transposed.ensures)
     (λ c. larger (level_round_keeps c.levels_round-more.ensures) (λ e. c.if-size.false (omega arith)))
     (λ c.
-    let d = c.before.before.before in
-    let t = d.before.before.before in
-    let p = t.requires in
-    (owned _ _ d.levels_round-more.type_inv, levels_more _ (good_table _ p.0) (held_pairs _ p.0 p.1.1) t.transposed-back.ensures d.loop-balanced.invariant.1 d.levels_round-more.ensures)))
+    let p = c.requires in
+    (owned _ _ c.levels_round-more.type_inv, levels_more _ (good_table _ p.0) (held_pairs _ p.0 p.1.1) c.transposed-back.ensures c.loop-balanced.invariant.1 c.levels_round-more.ensures)))

@@ -48,11 +48,9 @@ moves_of_spec =
     (λ c. (bounds c.before.before.before.before).0)
     (λ c. omega arith)
     (λ c.
-    let d = c.before.before.before.before in
-    let t = taken _ (good d) d.checked_moves-part.ensures _ _ _ d.loop-k-test.true c.is_move_of.ensures c.if-is_move_of.true in
-    (moves_take d.loop-k.invariant.0 t.0 t.1 (bounds d).0 (bounds d).2, omega arith))
+    let t = taken _ (good c.before.before.before.before) c.checked_moves-part.ensures _ _ _ c.loop-k-test.true c.is_move_of.ensures c.if-is_move_of.true in
+    (moves_take c.loop-k.invariant.0 t.0 t.1 (bounds c.before.before.before.before).0 (bounds c.before.before.before.before).2, omega arith))
     (λ c. omega arith)
     (λ c.
-    let d = c.before.before in
-    (moves_skip d.loop-k.invariant.0 (skipped _ (good d) d.checked_moves-part.ensures _ _ _ d.loop-k-test.true c.is_move_of.ensures c.if-is_move_of.false), omega arith))
+    (moves_skip c.loop-k.invariant.0 (skipped _ (good c.before.before) c.checked_moves-part.ensures _ _ _ c.loop-k-test.true c.is_move_of.ensures c.if-is_move_of.false), omega arith))
     (λ c. moves_all _ c.requires.0 c.checked_moves-part.ensures (omega arith) (omega arith) c.loop-k.invariant.0))

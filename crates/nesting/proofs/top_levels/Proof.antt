@@ -32,7 +32,7 @@ top_levels_spec =
     (λ c.
     let back = owned _ _ c.well_formed.1.0 in
     let initial = c.initial_states-initial.ensures in
-    (omega arith, built_more c.if_final.ok (omega arith) c.loop-q.invariant.1 (top_row _ _ initial back c.if_final.ensures)))
+    (omega arith, built_more c.if_final.type_inv (omega arith) c.loop-q.invariant.1 (top_row _ _ initial back c.if_final.ensures)))
     (λ c.
     let back = owned _ _ c.well_formed.1.0 in
     built_all (omega arith) (λ q o w. (holds_inside back w.pair).0) c.loop-q.invariant.1))

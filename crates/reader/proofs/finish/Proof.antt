@@ -15,8 +15,8 @@ use Rattle.reader.proofs.finish.Statement.{statement}
 use Rattle.reader.proofs.finish.Tie as tie
 
 -- What the counts that were given say of the table.
-counted : (c : tie.In-Good-2) → Counted c.args.table.now c.counts-1.given.0.0
-counted c = when_good _ _ (sym (ap checked_as c.counts-1.given.1) ∙ c.check.ensures)
+counted : (c : tie.In-Good-2) → Counted c.args.table.now c.in-Good.counts
+counted c = when_good _ _ (sym (ap checked_as c.in-Good.is) ∙ c.check.ensures)
 
 long : (c : tie.Else-state-lt-STATE) → state_size ≤ length c.args.state.now
 long c = rw state_size_lem c.if-state-lt-STATE.false
@@ -43,7 +43,7 @@ finish_spec =
     ((w.good, w.states), head_ready _ _ (legal c.before) (long e) c.head_in.ensures))
     (λ c.
     let d = c.before in
-    let w = when_refused _ _ (sym (ap checked_as d.number-1.given.1) ∙ d.check.ensures) in
+    let w = when_refused _ _ (sym (ap checked_as d.in-Refused.is) ∙ d.check.ensures) in
     answers _ d.args.state.now (meets_no_table _ _ _ w.0 w.1))
     (λ c.
     let d = c.before in

@@ -10,8 +10,8 @@ use Rattle.reader.proofs.letter.Statement.{statement}
 use Rattle.reader.proofs.letter.Tie as tie
 
 -- What the counts that were given say of the table.
-counted : (c : tie.In-Good-2) → Counted c.args.table.now c.counts-1.given.0.0
-counted c = when_good _ _ (sym (ap checked_as c.counts-1.given.1) ∙ c.check.ensures)
+counted : (c : tie.In-Good-2) → Counted c.args.table.now c.in-Good.counts
+counted c = when_good _ _ (sym (ap checked_as c.in-Good.is) ∙ c.check.ensures)
 
 pub letter_spec : {M : Type 1} → statement M
 letter_spec =
@@ -32,7 +32,7 @@ letter_spec =
     ((w.good, (w.states, w.letters)), (rw state_size_lem e.if-state-lt-STATE.false, c.is_legal.ensures ∙ not-false _ c.if-not-is_legal.false)))
     (λ c.
     let d = c.before in
-    let w = when_refused _ _ (sym (ap checked_as d.number-1.given.1) ∙ d.check.ensures) in
+    let w = when_refused _ _ (sym (ap checked_as d.in-Refused.is) ∙ d.check.ensures) in
     meets_no_table _ _ _ w.0 w.1)
     (λ c. omega arith)
     (λ c.

@@ -28,7 +28,7 @@ letter_verdict_spec =
     (λ c words.
     let a = c.args in
     let known : a.letter < letter_count (parse a.table.now) = omega arith in
-    let kind = sym (kind_there _ _ known) ∙ sym c.kind_at.ensures ∙ ap kind_as c.enum_told-1.given.1 in
+    let kind = sym (kind_there _ _ known) ∙ sym c.kind_at.ensures ∙ ap kind_as c.in-Open.is in
     reason_verdict _ _ _ (open_too_deep known (omega (arith, longest_log_lem)) (some-injective _ _ kind) (omega (arith, deepest_is, head_depth a.head words))))
     (λ c words.
     let a = c.args in

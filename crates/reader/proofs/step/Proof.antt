@@ -32,10 +32,10 @@ told : (c : tie.After-kind_at) {kind : Kind} → some kind ≡ kind_as c.kind_at
 told c e = told_kind _ _ (e ∙ c.kind_at.ensures)
 
 opens : (c : tie.In-Open) → kind_in (parse (begin c.before.before).args.table.now) (begin c.before.before).args.letter ≡ opening
-opens c = told c.before.before (sym (ap kind_as c.enum_told-in-Open-1.given.1))
+opens c = told c.before.before (sym (ap kind_as c.in-Open.is))
 
 closes : (c : tie.In-Close) → kind_in (parse (begin c.before.before).args.table.now) (begin c.before.before).args.letter ≡ closing
-closes c = told c.before.before (sym (ap kind_as c.enum_told-in-Close-1.given.1))
+closes c = told c.before.before (sym (ap kind_as c.in-Close.is))
 
 rows : (c : tie.Start) → RowsBelow c.args.states (rows_in c.args.state.now c.args.head.depth)
 rows c = ready_states _ _ c.requires.1.1.0 (small c) c.requires.0.1 _ (omega arith)
@@ -66,7 +66,7 @@ step_spec =
     let s = begin d.before.before in
     let p = s.pre in
     plain_step _ (good_table _ p.0.0) (small s) _ _ p.1.1.0 p.1.1.1.0 p.1.0.0 (few s)
-    (told d.before.before (sym (ap kind_as d.enum_told-1.given.1))) c.plain.ensures)
+    (told d.before.before (sym (ap kind_as d.in-Plain.is))) c.plain.ensures)
     (λ c. omega arith)
     (λ c.
     let d = c.before.before.before.before in
@@ -82,4 +82,4 @@ step_spec =
     close_step _ (good_table _ p.0.0) (small s) _ _ p.1.1.0 p.1.1.1.0 (closes d) c.close.ensures)
     (λ c.
     let k = c.before.before.before in
-    absurd (told_none _ (taken (begin k)).own (sym (ap kind_as c.enum_told-in-NoLetter-1.given.1) ∙ k.kind_at.ensures))))
+    absurd (told_none _ (taken (begin k)).own (sym (ap kind_as c.in-NoLetter.is) ∙ k.kind_at.ensures))))

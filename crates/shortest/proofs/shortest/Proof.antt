@@ -9,8 +9,8 @@ use Rattle.shortest.proofs.shortest.Statement.{statement}
 use Rattle.shortest.proofs.shortest.Tie as tie
 
 -- What the counts that were given say of the table.
-counted : (c : tie.In-Good-2) → Counted c.args.table.now c.counts-1.given.0.0
-counted c = when_good _ _ (sym (ap checked_as c.counts-1.given.1) ∙ c.check.ensures)
+counted : (c : tie.In-Good-2) → Counted c.args.table.now c.in-Good.counts
+counted c = when_good _ _ (sym (ap checked_as c.in-Good.is) ∙ c.check.ensures)
 
 pub shortest_spec : {M : Type 1} → statement M
 shortest_spec =
@@ -24,7 +24,7 @@ shortest_spec =
     (λ c κs. omega (arith, scratch_size_lem, c.shortest_of-answer.ensures.1.long))
     (λ c.
     let d = c.before in
-    let w = when_refused _ _ (sym (ap checked_as d.number-1.given.1) ∙ d.check.ensures) in
+    let w = when_refused _ _ (sym (ap checked_as d.in-Refused.is) ∙ d.check.ensures) in
     meets_no_table _ _ _ w.0 w.1)
     (λ c. omega arith)
     (λ c. omega arith)

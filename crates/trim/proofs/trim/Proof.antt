@@ -9,8 +9,8 @@ use Rattle.trim.proofs.trim.Statement.{statement}
 use Rattle.trim.proofs.trim.Tie as tie
 
 -- What the counts that were given say of the table.
-counted : (c : tie.In-Good-2) → Counted c.args.table.now c.counts-1.given.0.0
-counted c = when_good _ _ (sym (ap checked_as c.counts-1.given.1) ∙ c.check.ensures)
+counted : (c : tie.In-Good-2) → Counted c.args.table.now c.in-Good.counts
+counted c = when_good _ _ (sym (ap checked_as c.in-Good.is) ∙ c.check.ensures)
 
 pub trim_spec : {M : Type 1} → statement M
 trim_spec =
@@ -26,7 +26,7 @@ trim_spec =
     (λ c κs. omega (arith, scratch_size_lem, c.trim_checked-answer.ensures.1.1.long))
     (λ c.
     let d = c.before in
-    let w = when_refused _ _ (sym (ap checked_as d.number-1.given.1) ∙ d.check.ensures) in
+    let w = when_refused _ _ (sym (ap checked_as d.in-Refused.is) ∙ d.check.ensures) in
     meets_no_table _ _ _ w.0 w.1)
     (λ c. omega arith)
     (λ c. omega arith)

@@ -11,4 +11,4 @@ ways_in_spec =
     (tie.spec
     (λ c κs. (c.requires.0, omega arith))
     (λ c κs. tt)
-    (λ c. let p = c.requires in ways_in _ p.0 _ p.1 c.before.Moves-of.ensures c.join.ensures))
+    (λ c. let p = c.requires in ways_in _ p.0 _ p.1 c.moves_of.ensures c.join.ensures))

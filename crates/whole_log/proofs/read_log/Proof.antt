@@ -18,8 +18,8 @@ module _ (c : tie.In-Good-2) where
   abbrev entry : tie.Start
   entry = c.before.before.before.before.before.before
 
-  counted : Counted entry.args.table.now c.counts-1.given.0.0
-  counted = when_good _ _ (sym (ap checked_as c.counts-1.given.1) ∙ c.check.ensures)
+  counted : Counted entry.args.table.now c.in-Good.counts
+  counted = when_good _ _ (sym (ap checked_as c.in-Good.is) ∙ c.check.ensures)
 
 pub read_log_spec : {M : Type 1} → statement M
 read_log_spec =
@@ -41,7 +41,7 @@ read_log_spec =
     ((w.good, (w.states, w.letters)), (omega (arith, state_size_lem), omega (arith, longest_log_lem))))
     (λ c κs. (omega arith, omega (arith, c.read_all-answer.ensures.1.long)))
     (λ c.
-    let w = when_refused _ _ (sym (ap checked_as c.number-1.given.1) ∙ c.check.ensures) in
+    let w = when_refused _ _ (sym (ap checked_as c.in-Refused.is) ∙ c.check.ensures) in
     meets_no_table _ _ _ w.0 w.1)
     (λ c. omega (arith, c.clear.ensures.long, c.read_all-answer.ensures.1.long))
     (λ c.

@@ -18,7 +18,7 @@ module _ (c : tie.After-struct_told-1) where
   lowest_fits = record { sfits = c.struct_told-1.given.1.0.1 }
 
   sum : to_z w32 (of_z w32 (to_z w32 (of_z w32 entry.args.self.balance) +ℤ to_z w32 (of_z w32 entry.args.added))) ≡ entry.args.self.balance +ℤ entry.args.added
-  sum = sum_read w32 balance_fits entry.fits.added entry.requires
+  sum = sum_read w32 balance_fits entry.ranges.added entry.requires
 
 pub after_spec : {M : Type 1} → statement M
 after_spec =

@@ -15,8 +15,8 @@ too_short_spec =
     (λ c. search rules)
     (λ c κs. search rules)
     (λ c.
-    let h = when_refused _ _ (sym (ap checked_as c.number-1.given.1) ∙ c.check.ensures) in
+    let h = when_refused _ _ (sym (ap checked_as c.in-Refused.is) ∙ c.check.ensures) in
     c.refused.ensures ∙ sym h.0 ∙ sym (on_bad _ _ (λ k. k) (λ z. h.1 (sym h.0 ∙ z))))
     (λ c.
-    let h = when_good _ _ (sym (ap checked_as c.enum_told-1.given.1) ∙ c.check.ensures) in
+    let h = when_good _ _ (sym (ap checked_as c.in-Good.is) ∙ c.check.ensures) in
     c.refused-in-Good.ensures ∙ sym (on_good _ _ (λ k. k) h.good)))
