@@ -47,6 +47,5 @@ chain_spec =
     (λ c. omega (arith, low c.before))
     (λ c. omega arith)
     (λ c.
-    let d = c.before in
-    (chained_more (omega arith) (omega arith) (most d.before.before) (low d) d.loop-k.invariant.0, omega arith))
+    (chained_more (omega arith) (omega arith) (most c.before.before.before) (low c.before) c.loop-k.invariant.0, omega arith))
     (λ c. rw (← c.checked_moves-part.ensures) (chained_all (omega arith) c.loop-k.invariant.0)))

@@ -17,30 +17,24 @@ invariant-loop-due table states from to scratch₀ due₀ soonest₀ scratch due
 abbrev decreases-loop-due : tie.decreases-loop-due
 decreases-loop-due table states from to scratch₀ due₀ soonest₀ scratch due soonest = work_left scratch due
 
-abbrev begin : tie.At-loop-due invariant-loop-due decreases-loop-due → tie.Start invariant-loop-due decreases-loop-due
-begin c = c.before.before.before.before.before.before.before.before.before
+is : (c : tie.At-loop-due invariant-loop-due decreases-loop-due) → Storable (parse c.args.table.now)
+is c = good_storable _ c.requires.0.0
 
-is : (c : tie.At-loop-due invariant-loop-due decreases-loop-due) → Storable (parse (begin c).args.table.now)
-is c = good_storable _ (begin c).requires.0.0
+few : (c : tie.At-loop-due invariant-loop-due decreases-loop-due) → c.args.states ≤ 64
+few c = omega (arith, (is c).states, c.requires.0.1.0)
 
-few : (c : tie.At-loop-due invariant-loop-due decreases-loop-due) → (begin c).args.states ≤ 64
-few c = omega (arith, (is c).states, (begin c).requires.0.1.0)
-
-kept : (c : tie.At-loop-due invariant-loop-due decreases-loop-due) → KeptFrom 4096 (begin c).args.scratch.now c.loop-due.scratch
+kept : (c : tie.At-loop-due invariant-loop-due decreases-loop-due) → KeptFrom 4096 c.args.scratch.now c.loop-due.scratch
 kept c = kept_then c.start.ensures.1 c.loop-due.invariant.1
 
-abbrev turn : tie.Else-p-states invariant-loop-due decreases-loop-due → tie.At-loop-due invariant-loop-due decreases-loop-due
-turn c = c.before.before.before.before
-
 -- The row that is due.
-found : (c : tie.Else-p-states invariant-loop-due decreases-loop-due) → c.soonest_row-p.result < (begin (turn c)).args.states
+found : (c : tie.Else-p-states invariant-loop-due decreases-loop-due) → c.soonest_row-p.result < (c).args.states
 found c = let other = c.if-p-states.false in omega (arith, c.soonest_row-p.ensures.low)
 
 low : (c : tie.Else-p-states invariant-loop-due decreases-loop-due) → c.soonest_row-p.result < 64
-low c = omega (arith, found c, few (turn c))
+low c = omega (arith, found c, few c.before.before.before.before)
 
 long : (c : tie.At-loop-due invariant-loop-due decreases-loop-due) → 4096 ≤ length c.loop-due.scratch
-long c = omega (arith, (kept c).long, (begin c).requires.0.1.1)
+long c = omega (arith, (kept c).long, c.requires.0.1.1)
 
 pub find_spec : {M : Type 1} → statement M
 find_spec =
@@ -53,27 +47,15 @@ find_spec =
     (λ c κs. few c.before.before)
     (λ c. (kept c.before.before.before.before).long)
     (λ c.
-    let d = c.before.before.before.before in
-    (searched_all (is d) (begin d).requires.0.1.0 c.soonest_row-p.ensures c.if-p-states.true d.loop-due.invariant.0, kept d))
+    (searched_all (is c.before.before.before.before) c.requires.0.1.0 c.soonest_row-p.ensures c.if-p-states.true c.loop-due.invariant.0, kept c.before.before.before.before))
     (λ c κs.
-    let e = c.before.before.before in
-    (low e, (long (turn e), e.soonest_row-p.ensures.due_here (found e))))
+    (low c.before.before, (long c.before.before.before.before.before.before, c.soonest_row-p.ensures.due_here (found c.before.before))))
     (λ c κs.
-    let t = c.before.before.before in
-    let e = t.before.before.before.before in
-    let d = turn e in
-    let p = (begin d).requires in
-    ((p.0.0, (few d, (low e, (t.take_from-q.ensures.low, long d)))), p.1))
+    let p = c.requires in
+    ((p.0.0, (few c.before.before.before.before.before.before.before.before.before.before, (low c.before.before.before.before.before.before, (c.take_from-q.ensures.low, long c.before.before.before.before.before.before.before.before.before.before)))), p.1))
     (λ c.
-    let u = c.before.before in
-    let t = u.before.before.before.before in
-    let e = t.before.before.before.before in
-    omega (arith, work_taken t.take_from-q.ensures (turn e).loop-due.scratch (low e), work_lowered u.settle.ensures.lowered))
-    (λ c.
-    let u = c.before.before in
-    let t = u.before.before.before.before in
-    let e = t.before.before.before.before in
-    let d = turn e in (
-      searched_settled (is d) (begin d).requires.0.1.0 (found e) d.loop-due.invariant.0 t.take_from-q.ensures u.settle.ensures,
-      kept_then d.loop-due.invariant.1 u.settle.ensures.lowered.kept,
+    omega (arith, work_taken c.take_from-q.ensures c.loop-due.scratch (low c.before.before.before.before.before.before.before.before.before), work_lowered c.settle.ensures.lowered))
+    (λ c. (
+      searched_settled (is c.before.before.before.before.before.before.before.before.before.before.before.before.before) c.requires.0.1.0 (found c.before.before.before.before.before.before.before.before.before) c.loop-due.invariant.0 c.take_from-q.ensures c.settle.ensures,
+      kept_then c.loop-due.invariant.1 c.settle.ensures.lowered.kept,
     )))

@@ -24,9 +24,7 @@ lower_spec =
     (λ c. omega arith)
     (λ c. length-set c.args.scratch.now _ _)
     (λ c.
-    let d = c.before.before in
-    let f = d.before.before.before in
-    let counted = f.lesser-counted.ensures in
-    lower_one (omega arith) (omega arith) counted (omega arith) (omega (arith, f.length_at.ensures.0)) d.note.ensures)
+    let counted = c.lesser-counted.ensures in
+    lower_one (omega arith) (omega arith) counted (omega arith) (omega (arith, c.length_at.ensures.0)) c.note.ensures)
     (λ c. refl)
     (λ c. lower_stays (omega arith) (omega arith) c.lesser-counted.ensures (omega (arith, c.length_at.ensures.0))))

@@ -33,20 +33,19 @@ lower_after_spec =
     (λ c. omega arith)
     (λ c. omega arith)
     (λ c.
-    let d = c.before.before.before.before in
-    let p = d.requires in
-    let h = d.loop-r.invariant.1 in
+    let p = c.requires in
+    let h = c.loop-r.invariant.1 in
     let e = c.length_at-more.ensures.0 in
-    let less = h.lowered.less _ d.loop-r.r p.1.1.0 (omega arith) in (
+    let less = h.lowered.less _ c.loop-r.r p.1.1.0 (omega arith) in (
       omega arith,
       ⊎_elim
           (λ w.
-          rw (w.7, w.8)
-          (below_more h w.4.ensures (λ l. omega (arith, less))
-          (λ t g k. rw (← e) (has_join (automaton t) k (g.has _ _ p.1.1.0 (omega arith) (omega (arith, w.0.taken, over_is)))))
+          rw (w.scratch-is, w.due-is)
+          (below_more h w.lower.ensures (λ l. omega (arith, less))
+          (λ t g k. rw (← e) (has_join (automaton t) k (g.has _ _ p.1.1.0 (omega arith) (omega (arith, w.if-more-le-OVER.true, over_is)))))
           (λ r l. (p.1.0, omega arith))))
-          (λ w. rw (w.1, w.2) (below_skip h (λ l. omega (arith, less, over_is, w.0.left))))
-          c.if-more-le-OVER.branch,
+          (λ w. rw (w.scratch-is, w.due-is) (below_skip h (λ l. omega (arith, less, over_is, w.if-more-le-OVER.false))))
+          c.if-more-le-OVER.branch-raw,
     ))
     (λ c. c.loop-r.invariant.1.lowered.kept.long)
     (λ c.

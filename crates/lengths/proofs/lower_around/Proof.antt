@@ -29,7 +29,7 @@ chained : (c : tie.After-checked_moves-part invariant-loop-k decreases-loop-k) �
 chained c = rw c.checked_moves-part.ensures c.requires.1.1
 
 low : (c : tie.In-loop-k invariant-loop-k decreases-loop-k) → byte c.checked_moves-part.result.now (4 * c.loop-k.k) < 64
-low c = let d = c.before.before.before in (move_bounds _ (good d) d.checked_moves-part.ensures _ c.loop-k-test.true).0
+low c = (move_bounds _ (good c.before.before.before.before) c.checked_moves-part.ensures _ c.loop-k-test.true).0
 
 pub lower_around_spec : {M : Type 1} → statement M
 lower_around_spec =
@@ -40,39 +40,32 @@ lower_around_spec =
     (λ c κs. c.requires.0.0)
     (λ c. omega arith)
     (λ c. omega arith)
-    (λ c. let d = c.before in around_none _ (good d) d.checked_moves-part.ensures (chained d) d.requires.0.1.0)
-    (λ c. omega (arith, most c.before.before.before))
-    (λ c. omega (arith, most c.before.before.before))
-    (λ c. omega (arith, most c.before.before.before))
-    (λ c. omega (arith, most c.before.before.before))
+    (λ c. around_none _ (good c.before.before) c.checked_moves-part.ensures (chained c.before.before) c.requires.0.1.0)
     (λ c. omega (arith, most c.before.before.before.before))
+    (λ c. omega (arith, most c.before.before.before.before))
+    (λ c. omega (arith, most c.before.before.before.before))
+    (λ c. omega (arith, most c.before.before.before.before.before))
+    (λ c. omega (arith, most c.before.before.before.before.before.before))
     (λ c. omega arith)
     (λ c. omega (arith, c.shared_slice_known-in-loop-k-1.given (4 * c.loop-k.k + 1)))
     (λ c κs. omega arith)
     (λ c. omega arith)
-    (λ c. omega (arith, low c.before.before.before.before.before.before.before.before))
-    (λ c. omega (arith, most c.before.before.before.before.before.before.before.before.before.before.before))
+    (λ c. omega (arith, low c.before.before.before.before.before.before.before.before.before))
+    (λ c. omega (arith, most c.before.before.before.before.before.before.before.before.before.before.before.before.before))
     (λ c. omega arith)
     (λ c. let byte_fits = c.shared_slice_known-then-is_of_kind-2-1.given in omega (arith, byte_fits (4 * c.loop-k.k + 1), byte_fits (4 * c.loop-k.k + 2)))
     (λ c. omega arith)
     (λ c κs.
-    let d = c.before.before.before.before.before.before.before.before.before in
-    let a = d.requires in
-    ((a.0.0, (low d, (a.0.1.1.0, omega (arith, d.loop-k.invariant.lowered.kept.long)))), a.1.0))
+    let a = c.requires in
+    ((a.0.0, (low c.before.before.before.before.before.before.before.before.before.before, (a.0.1.1.0, omega (arith, c.loop-k.invariant.lowered.kept.long)))), a.1.0))
     (λ c.
-    let d = c.before.before.before.before.before.before.before.before.before.before.before.before in
-    walked_further (chained d.before.before.before) d.loop-k-test.true)
+    walked_further (chained c.before.before.before.before.before.before.before.before.before.before.before.before.before.before.before.before.before) c.loop-k-test.true)
     (λ c.
-    let t = c.before.before.before.before.before.before.before.before in
-    let d = t.before.before.before.before in
-    let e = d.before.before.before in
-    around_take _ (good e) e.checked_moves-part.ensures (chained e) d.loop-k-test.true d.loop-k.invariant
-    t.is_of_kind.ensures t.if-is_of_kind.true c.lower_closing.ensures)
-    (λ c. let d = c.before.before.before.before in walked_further (chained d.before.before.before) d.loop-k-test.true)
+    around_take _ (good c.before.before.before.before.before.before.before.before.before.before.before.before.before.before.before.before.before) c.checked_moves-part.ensures (chained c.before.before.before.before.before.before.before.before.before.before.before.before.before.before.before.before.before) c.loop-k-test.true c.loop-k.invariant
+    c.is_of_kind.ensures c.if-is_of_kind.true c.lower_closing.ensures)
+    (λ c. walked_further (chained c.before.before.before.before.before.before.before.before.before) c.loop-k-test.true)
     (λ c.
-    let d = c.before.before.before.before in
-    let e = d.before.before.before in
-    around_skip _ (good e) e.checked_moves-part.ensures (chained e) d.loop-k-test.true d.loop-k.invariant
+    around_skip _ (good c.before.before.before.before.before.before.before.before.before) c.checked_moves-part.ensures (chained c.before.before.before.before.before.before.before.before.before) c.loop-k-test.true c.loop-k.invariant
     c.is_of_kind.ensures c.if-is_of_kind.false)
     (λ c. c.loop-k.invariant.lowered.kept.long)
-    (λ c. let d = c.before.before.before in around_all _ (good d) d.checked_moves-part.ensures c.loop-k-test.false c.loop-k.invariant))
+    (λ c. around_all _ (good c.before.before.before.before) c.checked_moves-part.ensures c.loop-k-test.false c.loop-k.invariant))

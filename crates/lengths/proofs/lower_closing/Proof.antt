@@ -29,7 +29,7 @@ chained : (c : tie.After-checked_moves-part invariant-loop-k decreases-loop-k) �
 chained c = rw c.checked_moves-part.ensures c.requires.1
 
 low : (c : tie.In-loop-k invariant-loop-k decreases-loop-k) → byte c.checked_moves-part.result.now (4 * c.loop-k.k + 3) < 64
-low c = let d = c.before.before.before in (move_bounds _ (good d) d.checked_moves-part.ensures _ c.loop-k-test.true).2
+low c = (move_bounds _ (good c.before.before.before.before) c.checked_moves-part.ensures _ c.loop-k-test.true).2
 
 pub lower_closing_spec : {M : Type 1} → statement M
 lower_closing_spec =
@@ -40,32 +40,25 @@ lower_closing_spec =
     (λ c κs. c.requires.0.0)
     (λ c. omega arith)
     (λ c. omega arith)
-    (λ c. let d = c.before in closing_none _ (good d) d.checked_moves-part.ensures (chained d) d.requires.0.1.1.0)
-    (λ c. omega (arith, most c.before.before.before))
-    (λ c. omega (arith, most c.before.before.before))
-    (λ c. omega (arith, most c.before.before.before))
-    (λ c. omega (arith, most c.before.before.before))
+    (λ c. closing_none _ (good c.before.before) c.checked_moves-part.ensures (chained c.before.before) c.requires.0.1.1.0)
+    (λ c. omega (arith, most c.before.before.before.before))
+    (λ c. omega (arith, most c.before.before.before.before))
+    (λ c. omega (arith, most c.before.before.before.before))
+    (λ c. omega (arith, most c.before.before.before.before.before))
     (λ c κs. (omega arith, omega arith))
-    (λ c. omega (arith, most c.before.before.before.before.before.before.before.before.before))
+    (λ c. omega (arith, most c.before.before.before.before.before.before.before.before.before.before.before))
     (λ c. omega arith)
-    (λ c. omega (arith, low c.before.before.before.before.before.before.before))
+    (λ c. omega (arith, low c.before.before.before.before.before.before.before.before))
     (λ c κs.
-    let d = c.before.before.before.before.before.before.before in
-    (d.requires.0.1.0, (low d, omega (arith, d.loop-k.invariant.lowered.kept.long))))
+    (c.requires.0.1.0, (low c.before.before.before.before.before.before.before.before, omega (arith, c.loop-k.invariant.lowered.kept.long))))
     (λ c.
-    let d = c.before.before.before.before.before.before.before.before.before.before in
-    walked_further (chained d.before.before.before) d.loop-k-test.true)
+    walked_further (chained c.before.before.before.before.before.before.before.before.before.before.before.before.before.before.before) c.loop-k-test.true)
     (λ c.
-    let t = c.before.before.before.before.before.before.before in
-    let d = t.before.before.before in
-    let e = d.before.before.before in
-    closing_take _ (good e) e.checked_moves-part.ensures (chained e) d.loop-k-test.true d.loop-k.invariant
-    t.is_move_of.ensures t.if-is_move_of.true e.requires.0.1.0 c.lower.ensures)
-    (λ c. let d = c.before.before.before in walked_further (chained d.before.before.before) d.loop-k-test.true)
+    closing_take _ (good c.before.before.before.before.before.before.before.before.before.before.before.before.before.before.before) c.checked_moves-part.ensures (chained c.before.before.before.before.before.before.before.before.before.before.before.before.before.before.before) c.loop-k-test.true c.loop-k.invariant
+    c.is_move_of.ensures c.if-is_move_of.true c.requires.0.1.0 c.lower.ensures)
+    (λ c. walked_further (chained c.before.before.before.before.before.before.before.before) c.loop-k-test.true)
     (λ c.
-    let d = c.before.before.before in
-    let e = d.before.before.before in
-    closing_skip _ (good e) e.checked_moves-part.ensures (chained e) d.loop-k-test.true d.loop-k.invariant
+    closing_skip _ (good c.before.before.before.before.before.before.before.before) c.checked_moves-part.ensures (chained c.before.before.before.before.before.before.before.before) c.loop-k-test.true c.loop-k.invariant
     c.is_move_of.ensures c.if-is_move_of.false)
     (λ c. c.loop-k.invariant.lowered.kept.long)
-    (λ c. let d = c.before.before.before in closing_all _ (good d) d.checked_moves-part.ensures c.loop-k-test.false c.loop-k.invariant))
+    (λ c. closing_all _ (good c.before.before.before.before) c.checked_moves-part.ensures c.loop-k-test.false c.loop-k.invariant))

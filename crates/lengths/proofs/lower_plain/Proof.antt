@@ -47,23 +47,16 @@ lower_plain_spec =
     (λ c. omega arith)
     (λ c. omega (arith, bounds c.before.before.before.before.before.before.before.before))
     (λ c κs.
-    let d = c.before.before.before.before.before.before.before.before in
-    ((bounds d).0, ((bounds d).2, omega (arith, d.loop-k.invariant.1.lowered.kept.long, d.requires.1))))
+    ((bounds c.before.before.before.before.before.before.before.before).0, ((bounds c.before.before.before.before.before.before.before.before).2, omega (arith, c.loop-k.invariant.1.lowered.kept.long, c.requires.1))))
     (λ c. omega arith)
     (λ c.
-    let e = c.before.before in
-    let f = e.before.before.before.before.before.before in
-    let d = f.before.before.before in
-    let h = d.loop-k.invariant.1 in
-    let m = d.before.before in (
+    let h = c.loop-k.invariant.1 in (
       omega arith,
-      plain_more _ (good m) m.checked_moves-part.ensures h d.loop-k-test.true f.is_of_kind.ensures f.if-is_of_kind.true e.lower.ensures,
+      plain_more _ (good c.before.before.before.before.before.before.before.before.before.before.before.before.before) c.checked_moves-part.ensures h c.loop-k-test.true c.is_of_kind.ensures c.if-is_of_kind.true c.lower.ensures,
     ))
     (λ c. omega arith)
     (λ c.
-    let d = c.before.before.before in
-    let h = d.loop-k.invariant.1 in
-    let m = d.before.before in
-    (omega arith, plain_skip _ (good m) m.checked_moves-part.ensures h d.loop-k-test.true c.is_of_kind.ensures c.if-is_of_kind.false))
+    let h = c.loop-k.invariant.1 in
+    (omega arith, plain_skip _ (good c.before.before.before.before.before) c.checked_moves-part.ensures h c.loop-k-test.true c.is_of_kind.ensures c.if-is_of_kind.false))
     (λ c. c.loop-k.invariant.1.lowered.kept.long)
     (λ c. plain_all _ (good c.before.before) c.checked_moves-part.ensures c.loop-k.invariant.1 (omega arith)))

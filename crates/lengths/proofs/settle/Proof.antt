@@ -13,23 +13,16 @@ settle_spec =
     let a = c.requires.0.1 in
     (a.0, (a.1.0, (a.1.1.0, (c.length_at-moves.ensures.1, a.1.1.1)))))
     (λ c κs.
-    let f = c.before.before.before.before.before in
-    let a = f.requires.0.1 in
-    let l = f.lower_after.ensures.lowered.kept.long in
-    (a.0, (a.1.0, (a.1.1.0, (f.length_at-moves.ensures.1, omega (arith, l))))))
+    let a = c.requires.0.1 in
+    let l = c.lower_after.ensures.lowered.kept.long in
+    (a.0, (a.1.0, (a.1.1.0, (c.length_at-moves.ensures.1, omega (arith, l))))))
     (λ c κs.
-    let g = c.before.before.before.before.before in
-    let f = g.before.before.before.before.before.before in
-    let a = f.requires in
-    let l = g.lower_before.ensures.lowered.kept.long ∙ f.lower_after.ensures.lowered.kept.long in
-    ((a.0.0, (a.0.1.1.0, (a.0.1.1.1.0, (f.length_at-moves.ensures.1, omega (arith, l))))), a.1))
+    let a = c.requires in
+    let l = c.lower_before.ensures.lowered.kept.long ∙ c.lower_after.ensures.lowered.kept.long in
+    ((a.0.0, (a.0.1.1.0, (a.0.1.1.1.0, (c.length_at-moves.ensures.1, omega (arith, l))))), a.1))
     (λ c.
-    let g = c.before.before.before.before.before.before.before.before in
-    let f = g.before.before.before.before.before.before in
-    c.lower_around.ensures.lowered.kept.long ∙ (g.lower_before.ensures.lowered.kept.long ∙ f.lower_after.ensures.lowered.kept.long))
+    c.lower_around.ensures.lowered.kept.long ∙ (c.lower_before.ensures.lowered.kept.long ∙ c.lower_after.ensures.lowered.kept.long))
     (λ c.
-    let g = c.before.before.before.before.before.before.before.before in
-    let f = g.before.before.before.before.before.before in
-    let a = f.requires.0.1 in
-    rw f.length_at-moves.ensures.0
-    (settled a.0 a.1.0 a.1.1.0 f.lower_after.ensures g.lower_before.ensures c.lower_around.ensures)))
+    let a = c.requires.0.1 in
+    rw c.length_at-moves.ensures.0
+    (settled a.0 a.1.0 a.1.1.0 c.lower_after.ensures c.lower_before.ensures c.lower_around.ensures)))

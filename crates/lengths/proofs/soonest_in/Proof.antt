@@ -38,15 +38,13 @@ soonest_in_spec =
     (λ c. omega (arith, (low c).low))
     (λ c. omega (arith, c.loop-rest-test.true))
     (λ c κs. let p = c.requires in (p.0, ((low c).low, p.1.0)))
-    (λ c κs. let d = c.before.before in let p = d.requires in (p.0, (d.loop-rest.invariant.1.1.0, p.1.0)))
+    (λ c κs. let p = c.requires in (p.0, (c.loop-rest.invariant.1.1.0, p.1.0)))
     (λ c. let z = c.loop-rest.rest in omega (arith, and_le_r z (z - 1)))
     (λ c.
-    let d = c.before.before.before in
-    let i = d.loop-rest.invariant in
-    (omega (arith, and_le_l d.loop-rest.rest (d.loop-rest.rest - 1)), (part_less i.1.0 (low d), ((low d).low, part_set i.1.0 (low d)))))
+    let i = c.loop-rest.invariant in
+    (omega (arith, and_le_l c.loop-rest.rest (c.loop-rest.rest - 1)), (part_less i.1.0 (low c.before.before.before), ((low c.before.before.before).low, part_set i.1.0 (low c.before.before.before)))))
     (λ c. let z = c.loop-rest.rest in omega (arith, and_le_r z (z - 1)))
     (λ c.
-    let d = c.before.before.before in
-    let i = d.loop-rest.invariant in
-    (omega (arith, and_le_l d.loop-rest.rest (d.loop-rest.rest - 1)), (part_less i.1.0 (low d), i.1.1)))
+    let i = c.loop-rest.invariant in
+    (omega (arith, and_le_l c.loop-rest.rest (c.loop-rest.rest - 1)), (part_less i.1.0 (low c.before.before.before), i.1.1)))
     (λ c. c.loop-rest.invariant.1.1))

@@ -28,7 +28,7 @@ soonest_row_spec =
     (λ c. omega arith)
     (λ c. (
       omega arith,
-      ⊎_elim (λ w. rw w.2 (below_here _ _ (omega arith) w.0.taken))
-          (λ w. rw w.1 (below_past _ _ w.0.left c.loop-p.invariant.1)) c.if-due-p.branch,
+      ⊎_elim (λ w. rw w.best-is (below_here _ _ (omega arith) w.if-due-p.true))
+          (λ w. rw w.best-is (below_past _ _ w.if-due-p.false c.loop-p.invariant.1)) c.if-due-p.branch-raw,
     ))
     (λ c. below_all (omega arith) c.loop-p.invariant.1))

@@ -11,22 +11,15 @@ start_spec =
     (tie.spec
     (λ c κs. c.requires.0.1.1)
     (λ c κs.
-    let d = c.before.before.before.before.before in
-    let p = d.requires.0 in
-    (omega (arith, (good_storable _ p.0).states), omega (arith, d.forget.ensures.1.long)))
+    let p = c.requires.0 in
+    (omega (arith, (good_storable _ p.0).states), omega (arith, c.forget.ensures.1.long)))
     (λ c κs.
-    let d = c.before.before.before.before.before in
-    let e = d.before.before.before.before.before.before in
-    let p = e.requires.0 in
-    (p.0, omega (arith, p.1.1, e.forget.ensures.1.long, d.lower_same.ensures.lowered.kept.long)))
+    let p = c.requires.0 in
+    (p.0, omega (arith, p.1.1, c.forget.ensures.1.long, c.lower_same.ensures.lowered.kept.long)))
     (λ c.
-    let d = c.before.before.before.before.before.before.before.before in
-    let e = d.before.before.before.before.before.before in
-    omega (arith, e.forget.ensures.1.long, d.lower_same.ensures.lowered.kept.long, c.lower_plain.ensures.lowered.kept.long))
+    omega (arith, c.forget.ensures.1.long, c.lower_same.ensures.lowered.kept.long, c.lower_plain.ensures.lowered.kept.long))
     (λ c.
     let g = c.lower_plain.ensures in
-    let d = c.before.before.before.before.before.before.before.before in
-    let f = d.lower_same.ensures in
-    let e = d.before.before.before.before.before.before in
-    let p = e.requires in
-    (started _ p.0.0 p.0.1.0 e.forget.ensures.0 p.1 f g, kept_then e.forget.ensures.1 (kept_then f.lowered.kept g.lowered.kept))))
+    let f = c.lower_same.ensures in
+    let p = c.requires in
+    (started _ p.0.0 p.0.1.0 c.forget.ensures.0 p.1 f g, kept_then c.forget.ensures.1 (kept_then f.lowered.kept g.lowered.kept))))
