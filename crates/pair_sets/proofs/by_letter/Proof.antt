@@ -45,7 +45,6 @@ by_letter_spec =
     (λ c. omega arith)
     (λ c. omega arith)
     (λ c.
-    let d = c.before.before.before in
-    let b = bounds d in
-    (letters_more d.loop-k.invariant.0 b.0 b.1 b.2, omega arith))
+    let b = bounds c.before.before.before in
+    (letters_more c.loop-k.invariant.0 b.0 b.1 b.2, omega arith))
     (λ c. letters_all _ c.requires c.checked_moves-part.ensures (omega arith) (omega arith) c.loop-k.invariant.0))

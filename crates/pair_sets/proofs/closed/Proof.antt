@@ -27,7 +27,7 @@ closed_spec =
     decreases-loop-z
     (λ c. (c.ranges.x.fits, joined_none _ _))
     (λ c. omega (arith, (low c).low))
-    (λ c κs. let s = c.before.before.before in ((s.requires.0, (low c).low), s.requires.1))
+    (λ c κs. ((c.requires.0, (low c).low), c.requires.1))
     (λ c. omega arith)
     (λ c. omega (arith, and_le_r c.loop-z.z (c.loop-z.z - 1)))
     (λ c. (

@@ -29,5 +29,5 @@ from_initial_spec =
     (λ c.
     let h = c.loop-i.invariant.1 in
     let g = c.is_initial.ensures in
-    (omega arith, ⊎_elim (λ w. rw w.2 (from_here h g w.0.taken)) (λ w. rw w.1 (from_past h g w.0.left)) c.if-is_initial.branch))
+    (omega arith, ⊎_elim (λ w. rw w.x-is (from_here h g w.if-is_initial.true)) (λ w. rw w.x-is (from_past h g w.if-is_initial.false)) c.if-is_initial.branch-raw))
     (λ c. from_all (omega arith) (omega arith) c.loop-i.invariant.1))

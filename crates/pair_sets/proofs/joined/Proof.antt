@@ -13,11 +13,10 @@ pub joined_spec : {M : Type 1} → statement M
 joined_spec =
     tie.close
     (tie.spec
-    (λ c κs. let s = c.before.before.before in (omega arith, omega (arith, low s, s.requires.1.1.0.0.rows)))
+    (λ c κs. (omega arith, omega (arith, low c.before.before.before, c.requires.1.1.0.0.rows)))
     (λ c κs. search rules)
     (λ c. search rules)
-    (λ c κs. let s = c.before.before.before.before.before.before in (low s, (s.requires.1.1.0.0, omega arith)))
+    (λ c κs. (low c.before.before.before.before.before.before, (c.requires.1.1.0.0, omega arith)))
     (λ c.
-    let s = c.before.before.before.before.before.before.before in
-    joined_links s.requires.1.1.1.0 s.requires.1.1.1.1 s.requires.1.1.0.0
+    joined_links c.requires.1.1.1.0 c.requires.1.1.1.1 c.requires.1.1.0.0
     c.together-halves.ensures c.links-through.ensures c.join_lent.ensures))

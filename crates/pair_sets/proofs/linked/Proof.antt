@@ -25,10 +25,10 @@ good : (c : tie.After-checked_moves-part invariant-loop-k decreases-loop-k) → 
 good c = c.requires.0.0
 
 few : (c : tie.In-loop-k invariant-loop-k decreases-loop-k) → c.loop-k.k < 1024
-few c = let v = c.before.before.before in omega (arith, moves_most _ (good v) v.checked_moves-part.ensures, c.loop-k-test.true)
+few c = omega (arith, moves_most _ (good c.before.before.before.before) c.checked_moves-part.ensures, c.loop-k-test.true)
 
 low : (c : tie.In-loop-k invariant-loop-k decreases-loop-k) → byte c.checked_moves-part.result.now (4 * c.loop-k.k + 3) < 64
-low c = let v = c.before.before.before in (move_bounds _ (good v) v.checked_moves-part.ensures _ c.loop-k-test.true).2
+low c = (move_bounds _ (good c.before.before.before.before) c.checked_moves-part.ensures _ c.loop-k-test.true).2
 
 pub linked_spec : {M : Type 1} → statement M
 linked_spec =
@@ -39,30 +39,28 @@ linked_spec =
     (λ c κs. c.requires.0.0)
     (λ c. omega arith)
     (λ c. omega arith)
-    (λ c. gathered_none (chained c.before) c.requires.0.1.0)
-    (λ c. omega (arith, few c))
+    (λ c. gathered_none (chained c.before.before) c.requires.0.1.0)
     (λ c. omega (arith, few c))
     (λ c. omega (arith, few c))
     (λ c. omega (arith, few c))
     (λ c. omega (arith, few c.before))
+    (λ c. omega (arith, few c.before.before))
     (λ c. omega arith)
     (λ c. omega (arith, c.shared_slice_known-in-loop-k-1.given (4 * c.loop-k.k + 1)))
-    (λ c. omega (arith, few c.before.before.before))
+    (λ c. omega (arith, few c.before.before.before.before))
     (λ c. omega arith)
-    (λ c. omega (arith, low c.before.before.before.before))
-    (λ c. omega (arith, low c.before.before.before.before))
     (λ c. omega (arith, low c.before.before.before.before.before))
-    (λ c. omega (arith, few c.before.before.before.before.before))
+    (λ c. omega (arith, low c.before.before.before.before.before))
+    (λ c. omega (arith, low c.before.before.before.before.before.before))
+    (λ c. omega (arith, few c.before.before.before.before.before.before))
     (λ c. omega arith)
     (λ c. omega (arith, c.shared_slice_known-then-letter-opener-3-1.given (4 * c.loop-k.k + 2)))
-    (λ c κs. let s = c.before.before.before.before.before.before.before.before.before.before.before.before in (s.requires.0.0, s.requires.1))
-    (λ c. let d = c.before.before.before.before.before.before.before in walked_further (chained d.before.before.before) d.loop-k-test.true)
+    (λ c κs. (c.requires.0.0, c.requires.1))
+    (λ c. walked_further (chained c.before.before.before.before.before.before.before.before.before.before.before.before) c.loop-k-test.true)
     (λ c.
-    let d = c.before.before.before.before.before.before.before in
-    gathered_more (chained d.before.before.before) d.loop-k-test.true d.loop-k.invariant
+    gathered_more (chained c.before.before.before.before.before.before.before.before.before.before.before.before) c.loop-k-test.true c.loop-k.invariant
     (links_here c.if-letter-opener.true c.closed-y.ensures))
-    (λ c. let d = c.before.before.before in walked_further (chained d.before.before.before) d.loop-k-test.true)
+    (λ c. walked_further (chained c.before.before.before.before.before.before.before.before) c.loop-k-test.true)
     (λ c.
-    let d = c.before.before.before in
-    gathered_skip (chained d.before.before.before) d.loop-k-test.true d.loop-k.invariant (links_other c.if-letter-opener.false))
-    (λ c. let v = c.before.before.before in linked_all _ (good v) v.checked_moves-part.ensures c.loop-k-test.false c.loop-k.invariant))
+    gathered_skip (chained c.before.before.before.before.before.before.before.before) c.loop-k-test.true c.loop-k.invariant (links_other c.if-letter-opener.false))
+    (λ c. linked_all _ (good c.before.before.before.before) c.checked_moves-part.ensures c.loop-k-test.false c.loop-k.invariant))

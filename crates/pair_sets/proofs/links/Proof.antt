@@ -18,8 +18,7 @@ decreases-loop-q table states from halves opener inside closer r₀ q₀ r q = s
 
 low : (c : tie.In-loop-q invariant-loop-q decreases-loop-q) → c.loop-q.q < 64
 low c =
-    let s = c.before.before.before.before in
-    omega (arith, (good_storable s.args.table.now s.requires.0.0).states, s.requires.0.1.0, c.loop-q-test.true)
+    omega (arith, (good_storable c.args.table.now c.requires.0.0).states, c.requires.0.1.0, c.loop-q-test.true)
 
 pub links_spec : {M : Type 1} → statement M
 links_spec =
@@ -29,16 +28,15 @@ links_spec =
     decreases-loop-q
     (λ c. (omega arith, built_none _))
     low
-    (λ c κs. let s = c.before.before.before.before.before in ((s.requires.0.0, (low c.before, s.requires.0.1.1)), s.requires.1))
+    (λ c κs. ((c.requires.0.0, (low c.before, c.requires.0.1.1)), c.requires.1))
     (λ c. omega (arith, low c.before.before))
     (λ c. low c.before.before)
     (λ c. omega (arith, low c.before))
     (λ c. omega arith)
     (λ c. (
       omega arith,
-      ⊎_elim (λ w. rw w.2 (built_more w.1.ok (low c.before) c.loop-q.invariant.1 (row_linked w.0.taken w.1.ensures)))
-          (λ w. rw w.1 (built_skip (row_left w.0.left) c.loop-q.invariant.1)) c.if-halves-q-eq1.branch,
+      ⊎_elim (λ w. rw w.r-is (built_more w.linked.type_inv (low c.before) c.loop-q.invariant.1 (row_linked w.if-halves-q-eq1.true w.linked.ensures)))
+          (λ w. rw w.r-is (built_skip (row_left w.if-halves-q-eq1.false) c.loop-q.invariant.1)) c.if-halves-q-eq1.branch-raw,
     ))
     (λ c.
-    let s = c.before.before.before.before in
-    built_all {m = state_count (parse s.args.table.now)} (omega (arith, s.requires.0.1.0)) (λ q k e. linked_low _ s.requires.0.0 e) c.loop-q.invariant.1))
+    built_all {m = state_count (parse c.args.table.now)} (omega (arith, c.requires.0.1.0)) (λ q k e. linked_low _ c.requires.0.0 e) c.loop-q.invariant.1))

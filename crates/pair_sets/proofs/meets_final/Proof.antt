@@ -26,11 +26,10 @@ meets_final_spec =
     (λ c. (c.ranges.x.fits, none_yet))
     (λ c. omega (arith, (low c).low))
     (λ c κs. tt)
-    (λ c. let d = c.before.before in (λ e. final_here d.loop-z.invariant.1 (low d) c.is_final.ensures c.if-is_final.true, λ w. tt))
+    (λ c. (λ e. final_here c.loop-z.invariant.1 (low c.before.before) c.is_final.ensures c.if-is_final.true, λ w. tt))
     (λ c. let z = c.loop-z.z in omega arith)
     (λ c. let z = c.loop-z.z in omega (arith, and_le_r z (z - 1)))
     (λ c.
-    let d = c.before.before in
-    let z = d.loop-z.z in
-    (omega (arith, and_le_l z (z - 1)), none_more d.loop-z.invariant.1 (low d) c.is_final.ensures c.if-is_final.false))
+    let z = c.loop-z.z in
+    (omega (arith, and_le_l z (z - 1)), none_more c.loop-z.invariant.1 (low c.before.before) c.is_final.ensures c.if-is_final.false))
     (λ c. (λ e. absurd e, none_all (rw c.loop-z-test.false at c.loop-z.invariant.1))))
