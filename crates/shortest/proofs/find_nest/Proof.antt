@@ -21,8 +21,7 @@ chained c = subst (λ u. Chained u 3 c.args.to.now) (sym c.checked_moves-part.en
 
 low : (c : tie.In-loop-j invariant-loop-j decreases-loop-j) → c.loop-j.j < 1024
 low c =
-    let v = c.before.before.before in
-    omega (arith, moves_most _ v.requires.0.0 v.checked_moves-part.ensures, c.loop-j-test.true)
+    omega (arith, moves_most _ c.requires.0.0 c.checked_moves-part.ensures, c.loop-j-test.true)
 
 pub find_nest_spec : {M : Type 1} → statement M
 find_nest_spec =
@@ -33,32 +32,26 @@ find_nest_spec =
     (λ c κs. c.requires.0.0)
     (λ c. omega arith)
     (λ c. omega arith)
-    (λ c. walked_none (chained c.before) c.requires.0.1.1.0)
+    (λ c. walked_none (chained c.before.before) c.requires.0.1.1.0)
     (λ c. omega arith)
     (λ c. omega arith)
     (λ c. omega arith)
     (λ c. omega (arith, c.shared_slice_known-in-loop-j-1.given (4 * c.loop-j.j + 1)))
     (λ c κs. omega arith)
     (λ c κs.
-    let d = c.before.before.before in
-    let v = d.before.before.before in
-    let p = v.requires in
-    ((p.0.0, (p.0.1.0, (subst (λ u. d.loop-j.j < length u / 4) v.checked_moves-part.ensures d.loop-j-test.true, p.0.1.1.1))), p.1.0))
+    let p = c.requires in
+    ((p.0.0, (p.0.1.0, (subst (λ u. c.loop-j.j < length u / 4) c.checked_moves-part.ensures c.loop-j-test.true, p.0.1.1.1))), p.1.0))
     (λ c.
-    let d = c.before.before.before.before.before in
-    let v = d.before.before.before in
-    let closing = nest_found _ v.requires.0.0 v.checked_moves-part.ensures _ d.loop-j-test.true d.loop-j.invariant c.is_of_kind.ensures in
+    let closing = nest_found _ c.requires.0.0 c.checked_moves-part.ensures _ c.loop-j-test.true c.loop-j.invariant c.is_of_kind.ensures in
     closing c.if-is_of_kind.true c.if-k-part.true c.find_open-k.ensures)
     (λ c. omega arith)
     (λ c. omega (arith, low c.before.before.before))
-    (λ c. omega (arith, low c.before.before.before))
-    (λ c. let d = c.before.before.before.before in walked_further (chained d.before.before.before) d.loop-j-test.true)
+    (λ c. omega (arith, low c.before.before.before.before))
+    (λ c. walked_further (chained c.before.before.before.before.before.before.before.before.before) c.loop-j-test.true)
     (λ c.
-    let d = c.before.before.before.before in
-    let v = d.before.before.before in
-    let good = v.requires.0.0 in
-    let e = v.checked_moves-part.ensures in
-    let other = nest_other _ good e _ d.loop-j-test.true c.is_of_kind.ensures in
-    let none = ⊎_elim (λ w. nest_unopened _ good e _ w.2.left w.1.ensures) (λ w. other w.left) c.if-is_of_kind.branch in
-    walked_more (chained v) d.loop-j-test.true none d.loop-j.invariant)
-    (λ c. let v = c.before.before.before in no_nest _ v.requires.0.0 v.checked_moves-part.ensures _ c.loop-j-test.false c.loop-j.invariant))
+    let good = c.requires.0.0 in
+    let e = c.checked_moves-part.ensures in
+    let other = nest_other _ good e _ c.loop-j-test.true c.is_of_kind.ensures in
+    let none = ⊎_elim (λ w. nest_unopened _ good e _ w.if-k-part.false w.find_open-k.ensures) (λ w. other w.if-is_of_kind.false) c.if-is_of_kind.branch-raw in
+    walked_more (chained c.before.before.before.before.before.before.before.before.before) c.loop-j-test.true none c.loop-j.invariant)
+    (λ c. no_nest _ c.requires.0.0 c.checked_moves-part.ensures _ c.loop-j-test.false c.loop-j.invariant))

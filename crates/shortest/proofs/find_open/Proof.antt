@@ -26,8 +26,7 @@ closes c = subst (λ u. c.args.j < length u / 4) (sym c.checked_moves-part.ensur
 
 low : (c : tie.In-loop-k invariant-loop-k decreases-loop-k) → c.loop-k.k < 1024
 low c =
-    let v = c.before.before.before.before.before in
-    omega (arith, moves_most _ v.requires.0.0 v.checked_moves-part.ensures, c.loop-k-test.true)
+    omega (arith, moves_most _ c.requires.0.0 c.checked_moves-part.ensures, c.loop-k-test.true)
 
 pub find_open_spec : {M : Type 1} → statement M
 find_open_spec =
@@ -45,35 +44,28 @@ find_open_spec =
     (λ c. omega (arith, c.shared_slice_known-4-1.given (4 * c.args.j)))
     (λ c. omega arith)
     (λ c. omega arith)
-    (λ c. walked_none (chained c.before.before.before) c.requires.0.1.0)
+    (λ c. walked_none (chained c.before.before.before.before) c.requires.0.1.0)
     (λ c. omega arith)
     (λ c. omega arith)
     (λ c. omega arith)
     (λ c. omega (arith, c.shared_slice_known-in-loop-k-1.given (4 * c.loop-k.k + 3)))
     (λ c κs.
-    let d = c.before in
-    let v = d.before.before.before.before.before in
-    let p = v.requires.0 in
-    let b = move_bounds _ p.0 v.checked_moves-part.ensures in
-    ((b _ d.loop-k-test.true).2, ((b _ (closes v)).0, p.1.1.1)))
+    let p = c.requires.0 in
+    let b = move_bounds _ p.0 c.checked_moves-part.ensures in
+    ((b _ c.loop-k-test.true).2, ((b _ (closes c.before.before.before.before.before.before.before)).0, p.1.1.1)))
     (λ c. omega (arith, c.length_at-inside.ensures.1))
-    (λ c. omega (arith, closes c.before.before.before.before.before.before.before))
-    (λ c κs. (omega (arith, closes c.before.before.before.before.before.before.before), omega arith))
+    (λ c. omega (arith, closes c.before.before.before.before.before.before.before.before))
+    (λ c κs. (omega (arith, closes c.before.before.before.before.before.before.before.before), omega arith))
     (λ c.
-    let d = c.before.before.before.before in
-    let v = d.before.before.before.before.before in
     let held = c.length_at-inside.ensures.0 in
-    open_found _ v.requires.0.0 v.checked_moves-part.ensures _ _ d.loop-k-test.true held d.loop-k.invariant c.is_move_of.ensures c.if-inside-moves.true)
+    open_found _ c.requires.0.0 c.checked_moves-part.ensures _ _ c.loop-k-test.true held c.loop-k.invariant c.is_move_of.ensures c.if-inside-moves.true)
     (λ c. omega arith)
     (λ c. omega (arith, low c.before.before.before.before))
-    (λ c. omega (arith, low c.before.before.before.before))
-    (λ c. let d = c.before.before.before.before.before in walked_further (chained d.before.before.before.before.before) d.loop-k-test.true)
+    (λ c. omega (arith, low c.before.before.before.before.before))
+    (λ c. walked_further (chained c.before.before.before.before.before.before.before.before.before.before.before.before) c.loop-k-test.true)
     (λ c.
-    let d = c.before.before.before.before.before in
-    let v = d.before.before.before.before.before in
     let held = c.length_at-inside.ensures.0 in
-    let o = open_other _ v.requires.0.0 v.checked_moves-part.ensures _ _ d.loop-k-test.true held c.is_move_of.ensures c.if-inside-moves.false in
-    walked_more (chained v) d.loop-k-test.true o d.loop-k.invariant)
+    let o = open_other _ c.requires.0.0 c.checked_moves-part.ensures _ _ c.loop-k-test.true held c.is_move_of.ensures c.if-inside-moves.false in
+    walked_more (chained c.before.before.before.before.before.before.before.before.before.before.before.before) c.loop-k-test.true o c.loop-k.invariant)
     (λ c.
-    let v = c.before.before.before.before.before in
-    no_open _ v.requires.0.0 v.checked_moves-part.ensures _ c.loop-k-test.false c.loop-k.invariant))
+    no_open _ c.requires.0.0 c.checked_moves-part.ensures _ c.loop-k-test.false c.loop-k.invariant))

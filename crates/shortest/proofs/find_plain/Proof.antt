@@ -21,8 +21,7 @@ chained c = subst (λ u. Chained u 0 c.args.from.now) (sym c.checked_moves-part.
 
 low : (c : tie.In-loop-k invariant-loop-k decreases-loop-k) → c.loop-k.k < 1024
 low c =
-    let v = c.before.before.before in
-    omega (arith, moves_most _ v.requires.0.0 v.checked_moves-part.ensures, c.loop-k-test.true)
+    omega (arith, moves_most _ c.requires.0.0 c.checked_moves-part.ensures, c.loop-k-test.true)
 
 pub find_plain_spec : {M : Type 1} → statement M
 find_plain_spec =
@@ -33,7 +32,7 @@ find_plain_spec =
     (λ c κs. c.requires.0.0)
     (λ c. omega arith)
     (λ c. omega arith)
-    (λ c. walked_none (chained c.before) c.requires.0.1)
+    (λ c. walked_none (chained c.before.before) c.requires.0.1)
     (λ c. omega arith)
     (λ c. omega arith)
     (λ c. omega arith)
@@ -43,18 +42,13 @@ find_plain_spec =
     (λ c. omega (arith, c.shared_slice_known-in-loop-k-2-1.given (4 * c.loop-k.k + 1)))
     (λ c κs. omega arith)
     (λ c.
-    let d = c.before.before.before.before in
-    let v = d.before.before.before in
-    plain_found _ v.requires.0.0 v.checked_moves-part.ensures d.loop-k-test.true d.loop-k.invariant c.is_of_kind.ensures c.if-ends-q.true)
+    plain_found _ c.requires.0.0 c.checked_moves-part.ensures c.loop-k-test.true c.loop-k.invariant c.is_of_kind.ensures c.if-ends-q.true)
     (λ c. omega arith)
     (λ c. omega (arith, low c.before.before.before.before))
-    (λ c. omega (arith, low c.before.before.before.before))
+    (λ c. omega (arith, low c.before.before.before.before.before))
     (λ c.
-    let d = c.before.before.before.before.before in
-    walked_further (chained d.before.before.before) d.loop-k-test.true)
+    walked_further (chained c.before.before.before.before.before.before.before.before.before.before) c.loop-k-test.true)
     (λ c.
-    let d = c.before.before.before.before.before in
-    let v = d.before.before.before in
-    let o = plain_other _ v.requires.0.0 v.checked_moves-part.ensures d.loop-k-test.true c.is_of_kind.ensures c.if-ends-q.false in
-    walked_more (chained v) d.loop-k-test.true o d.loop-k.invariant)
-    (λ c. let v = c.before.before.before in no_plain _ v.requires.0.0 v.checked_moves-part.ensures c.loop-k-test.false c.loop-k.invariant))
+    let o = plain_other _ c.requires.0.0 c.checked_moves-part.ensures c.loop-k-test.true c.is_of_kind.ensures c.if-ends-q.false in
+    walked_more (chained c.before.before.before.before.before.before.before.before.before.before) c.loop-k-test.true o c.loop-k.invariant)
+    (λ c. no_plain _ c.requires.0.0 c.checked_moves-part.ensures c.loop-k-test.false c.loop-k.invariant))

@@ -27,9 +27,8 @@ least_top_spec =
     (λ c. omega arith)
     (λ c. omega arith)
     (λ c.
-    let d = c.before.before.before in
-    let p = d.requires in
-    let h = d.loop-i.invariant in
+    let p = c.requires in
+    let h = c.loop-i.invariant in
     let g = c.is_initial.ensures in
-    ⊎_elim (λ w. rw w.2 (least_here h g w.0.taken (omega (arith, p.0)) w.1.ensures)) (λ w. rw w.1 (least_past h g w.0.left)) c.if-is_initial.branch)
+    ⊎_elim (λ w. rw w.top-is (least_here h g w.if-is_initial.true (omega (arith, p.0)) w.lesser_top-top.ensures)) (λ w. rw w.top-is (least_past h g w.if-is_initial.false)) c.if-is_initial.branch-raw)
     (λ c. least_all (omega arith) c.loop-i.invariant))

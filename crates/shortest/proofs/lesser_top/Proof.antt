@@ -25,9 +25,8 @@ lesser_top_spec =
     (λ c. omega arith)
     (λ c. omega arith)
     (λ c.
-    let d = c.before.before.before in
-    let h = d.loop-f.invariant in
-    let v = d.length_at-moves.ensures.0 in
+    let h = c.loop-f.invariant in
+    let v = c.length_at-moves.ensures.0 in
     let g = c.is_final.ensures in
-    ⊎_elim (λ w. rw w.1 (lesser_here h v g w.0.taken)) (λ w. rw w.1 (lesser_past h v g w.0.left)) c.if-moves-top.branch)
+    ⊎_elim (λ w. rw w.top-is (lesser_here h v g w.if-moves-top.true)) (λ w. rw w.top-is (lesser_past h v g w.if-moves-top.false)) c.if-moves-top.branch-raw)
     (λ c. lesser_all (omega arith) c.loop-f.invariant))

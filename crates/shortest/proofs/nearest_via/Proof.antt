@@ -26,10 +26,9 @@ nearest_via_spec =
     (λ c. omega (arith, c.loop-r-test.true))
     (λ c. omega (arith, c.loop-r-test.true))
     (λ c.
-    let d = c.before.before.before in
-    let i = d.loop-r.invariant in
+    let i = c.loop-r.invariant in
     let f = c.length_at-first.ensures.0 in
     let g = c.length_at-second.ensures.0 in
-    let e = d.length_at-whole.ensures.0 in
-    ⊎_elim (λ w. via_nearer i f g e d.loop-r-test.true w.0.taken w.1 w.2) (λ w. via_kept i f g e w.0.left w.1 w.2) c.if-first-least.branch)
+    let e = c.length_at-whole.ensures.0 in
+    ⊎_elim (λ w. via_nearer i f g e c.loop-r-test.true w.if-first-least.true w.best-is w.least-is) (λ w. via_kept i f g e w.if-first-least.false w.best-is w.least-is) c.if-first-least.branch-raw)
     (λ c. via_all c.loop-r-test.false c.loop-r.invariant))

@@ -65,4 +65,4 @@ open_level_spec =
     (λ c. omega (arith, c.hints-1.given))
     (λ c. simp length-set)
     (λ c. simp length-set)
-    (λ c. let d = c.before.before.before.before.before.before.before.before.before.before.before.before in opened d.checked_moves-part.ensures (found d)))
+    (λ c. opened c.checked_moves-part.ensures (found c.before.before.before.before.before.before.before.before.before.before.before.before)))

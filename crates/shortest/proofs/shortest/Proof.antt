@@ -9,7 +9,7 @@ use Rattle.shortest.proofs.shortest.Statement.{statement}
 use Rattle.shortest.proofs.shortest.Tie as tie
 
 -- What the counts that were given say of the table.
-counted : (c : tie.In-Good-2) → Counted c.args.table.now c.in-Good.counts
+counted : (c : tie.In-Good) → Counted c.args.table.now c.in-Good.counts
 counted c = when_good _ _ (sym (ap checked_as c.in-Good.is) ∙ c.check.ensures)
 
 pub shortest_spec : {M : Type 1} → statement M
@@ -19,18 +19,15 @@ shortest_spec =
     (λ c κs. tt)
     (λ c. search rules)
     (λ c. search rules)
-    (λ c. meets_short _ _ _ (counted c.before.before).good (rw scratch_size_lem c.if-scratch-lt-SCRATCH.true))
-    (λ c κs. let w = counted c.before.before.before.before in (w.good, (w.states, omega (arith, scratch_size_lem))))
+    (λ c. meets_short _ _ _ (counted c.before).good (rw scratch_size_lem c.if-scratch-lt-SCRATCH.true))
+    (λ c κs. let w = counted c.before.before.before in (w.good, (w.states, omega (arith, scratch_size_lem))))
     (λ c κs. omega (arith, scratch_size_lem, c.shortest_of-answer.ensures.1.long))
     (λ c.
-    let d = c.before in
-    let w = when_refused _ _ (sym (ap checked_as d.in-Refused.is) ∙ d.check.ensures) in
+    let w = when_refused _ _ (sym (ap checked_as c.in-Refused.is) ∙ c.check.ensures) in
     meets_no_table _ _ _ w.0 w.1)
     (λ c. omega arith)
     (λ c. omega arith)
     (λ c.
-    let f = c.before.before.before.before.before.before.before.before in
-    let e = f.before.before.before in
-    let r = f.shortest_of-answer.ensures in
-    meets_shown _ _ _ (counted e.before.before).good (rw scratch_size_lem e.if-scratch-lt-SCRATCH.false) r.0
+    let r = c.shortest_of-answer.ensures in
+    meets_shown _ _ _ (counted c.before.before.before.before.before.before.before.before.before.before.before.before).good (rw scratch_size_lem c.if-scratch-lt-SCRATCH.false) r.0
     (c.clear.ensures ∙ kept_cleared r.1 (rw scratch_size_lem (omega arith)))))

@@ -17,15 +17,13 @@ use Rattle.shortest.proofs.shortest_of.Tie as tie
 
 -- What is known once the least top is: the lengths are the least ones, and it is the least of all tops.
 found : (c : tie.After-least_top-top) →
-    let f = c.before.before.before.before in
-    let a = f.args in
+    let a = c.args in
     let t = parse a.table.now in
-    let s = f.find.new.1.1.1.1.0 in
+    let s = c.find.new.scratch in
     IsTable t × Least t s × LeastTop t s (state_count t) c.least_top-top.result × KeptFrom 16384 a.scratch.now s
 found c =
-    let f = c.before.before.before.before in
-    let p = f.requires in
-    (good_table _ p.0, f.find.ensures.0, least_all (omega (arith, p.1.0)) c.least_top-top.ensures, kept_more (omega arith) f.find.ensures.1)
+    let p = c.requires in
+    (good_table _ p.0, c.find.ensures.0, least_all (omega (arith, p.1.0)) c.least_top-top.ensures, kept_more (omega arith) c.find.ensures.1)
 
 -- A length below the bound, where neither answer was given.
 below : (c : tie.Else-top-eq-OVER) → c.least_top-top.result.moves < over
@@ -38,34 +36,24 @@ shortest_of_spec =
     (λ c κs. let p = c.requires in (p.0, inl refl))
     (λ c κs. let p = c.requires in (p.0, inr refl))
     (λ c κs.
-    let d = c.before.before.before in
-    let p = d.requires in
-    ((p.0, (p.1.0, omega (arith, p.1.1))), (d.chain-from.ensures, d.chain-to.ensures)))
+    let p = c.requires in
+    ((p.0, (p.1.0, omega (arith, p.1.1))), (c.chain-from.ensures, c.chain-to.ensures)))
     (λ c κs.
-    let f = c.before.before.before in
-    let p = f.requires in
-    (p.1.0, (omega (arith, p.1.0, (good_storable _ p.0).states), omega (arith, p.1.1, f.find.ensures.1.long))))
+    let p = c.requires in
+    (p.1.0, (omega (arith, p.1.0, (good_storable _ p.0).states), omega (arith, p.1.1, c.find.ensures.1.long))))
     (λ c. omega arith)
     (λ c. let w = found c.before.before in (shows_no_log w.0 w.1 w.2 _ (omega (arith, over_is, c.if-top-gt-OVER.true)), w.3))
     (λ c. omega arith)
     (λ c. let w = found c.before.before.before.before in (shows_too_long w.0 w.1 w.2 _ (omega (arith, over_is, c.if-top-eq-OVER.true)), w.3))
     (λ c. omega arith)
-    (λ c. let d = c.before.before in let w = found d.before.before.before.before in (shows_past w.0 w.1 w.2 _ (below d) c.if-out-top.true, w.3))
+    (λ c. let w = found c.before.before.before.before.before.before in (shows_past w.0 w.1 w.2 _ (below c.before.before) c.if-out-top.true, w.3))
     (λ c κs.
-    let g = c.before.before.before.before in
-    let d = g.before.before in
-    let l = d.before.before.before.before in
-    let f = l.before.before.before.before in
-    let e = f.before.before.before.before in
-    let p = e.requires in (
-      (p.0, (p.1.0, omega (arith, p.1.1, f.find.ensures.1.long))),
-      ((e.chain-from.ensures, e.chain-to.ensures), (f.find.ensures.0, (l.least_top-top.ensures, (below d, g.if-out-top.false)))),
+    let p = c.requires in (
+      (p.0, (p.1.0, omega (arith, p.1.1, c.find.ensures.1.long))),
+      ((c.chain-from.ensures, c.chain-to.ensures), (c.find.ensures.0, (c.least_top-top.ensures, (below c.before.before.before.before.before.before, c.if-out-top.false)))),
     ))
     (λ c. omega arith)
     (λ c. omega arith)
     (λ c.
-    let r = c.before.before.before.before in
-    let g = r.before.before.before.before.before in
-    let d = g.before.before in
-    let w = found d.before.before.before.before in
-    (shows_written w.0 w.1 w.2 _ (below d) g.if-out-top.false r.write_log.ensures.0, kept_then w.3 r.write_log.ensures.1)))
+    let w = found c.before.before.before.before.before.before.before.before.before.before.before.before.before.before.before in
+    (shows_written w.0 w.1 w.2 _ (below c.before.before.before.before.before.before.before.before.before.before.before) c.if-out-top.false c.write_log.ensures.0, kept_then w.3 c.write_log.ensures.1)))

@@ -29,4 +29,4 @@ step_to_spec =
     (λ c. omega arith)
     (λ c. omega arith)
     (λ c. simp length-set)
-    (λ c. let d = c.before.before in (stepped d.checked_moves-part.ensures (found d), refl)))
+    (λ c. (stepped c.checked_moves-part.ensures (found c.before.before), refl)))

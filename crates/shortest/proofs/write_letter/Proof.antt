@@ -9,18 +9,16 @@ write_letter_spec =
     tie.close
     (tie.spec
     (λ c κs.
-    let d = c.before.before in
-    let p = d.requires in
+    let p = c.requires in
     let w = p.1.1.1 in
-    let k = closes _ p.0.0 _ p.1.1.0 w d.if-walk.true in
+    let k = closes _ p.0.0 _ p.1.1.0 w c.if-walk.true in
     ((k.deep, (omega (arith, walk_depth w, p.0.1.1.0), (w.room, w.some))), k.letter))
     (λ c. omega arith)
     (λ c. omega arith)
     (λ c.
-    let d = c.before.before.before.before.before in
-    let p = d.requires in
+    let p = c.requires in
     let e = c.close_level.ensures in
-    wrote_close _ p.0.0 _ p.1.1.0 p.1.1.1 d.if-walk.true e.0 e.1)
+    wrote_close _ p.0.0 _ p.1.1.0 p.1.1.1 c.if-walk.true e.0 e.1)
     (λ c κs.
     let p = c.requires in
     let w = p.1.1.1 in
@@ -32,38 +30,31 @@ write_letter_spec =
     let p = c.requires in
     ((walk_low _ p.0.0 _ p.1.1.0 p.1.1.1).0, (omega (arith, c.nearest_via-via.ensures.low, (good_storable _ p.0.0).states), omega (arith, p.0.1.1.0))))
     (λ c κs.
-    let k = c.before.before in
-    let p = k.requires in
+    let p = c.requires in
     let w = p.1.1.1 in (
       (p.0.0, ((walk_low _ p.0.0 _ p.1.1.0 w).0, (w.room, w.some))),
-      (p.1.0.0, via_plain _ p.0.0 _ p.1.1.0 w p.0.1.0 k.nearest_via-via.ensures k.length_at-moves.ensures.0 c.if-moves-eq1.true),
+      (p.1.0.0, via_plain _ p.0.0 _ p.1.1.0 w p.0.1.0 c.nearest_via-via.ensures c.length_at-moves.ensures.0 c.if-moves-eq1.true),
     ))
     (λ c κs.
-    let e = c.before.before.before in
-    let k = e.before in
-    let p = k.requires in
+    let p = c.requires in
     let w = p.1.1.1 in
     let low = walk_low _ p.0.0 _ p.1.1.0 w in
-    let via = k.nearest_via-via.ensures in (
+    let via = c.nearest_via-via.ensures in (
       (p.0.0, (low.0, (low.1, (omega (arith, via.low, (good_storable _ p.0.0).states), (w.room, w.some))))),
       (
-        (via_deep _ p.0.0 _ p.1.1.0 w p.0.1.0 via k.length_at-moves.ensures.0, (p.0.1.1.0, p.0.1.1.1)),
-        (p.1.0, via_nest _ p.0.0 _ p.1.1.0 w p.0.1.0 via k.length_at-moves.ensures.0 e.if-moves-eq1.false),
+        (via_deep _ p.0.0 _ p.1.1.0 w p.0.1.0 via c.length_at-moves.ensures.0, (p.0.1.1.0, p.0.1.1.1)),
+        (p.1.0, via_nest _ p.0.0 _ p.1.1.0 w p.0.1.0 via c.length_at-moves.ensures.0 c.if-moves-eq1.false),
       ),
     ))
     (λ c. omega arith)
     (λ c. omega arith)
     (λ c.
-    let f = c.before.before in
-    let k = f.before.before.before in
-    let p = k.requires in
-    wrote_plain _ p.0.0 _ p.1.1.0 p.1.1.1 p.0.1.0 k.nearest_via-via.ensures k.length_at-moves.ensures.0 f.if-moves-eq1.true
-    f.step_to.ensures.0 f.step_to.ensures.1)
+    let p = c.requires in
+    wrote_plain _ p.0.0 _ p.1.1.0 p.1.1.1 p.0.1.0 c.nearest_via-via.ensures c.length_at-moves.ensures.0 c.if-moves-eq1.true
+    c.step_to.ensures.0 c.step_to.ensures.1)
     (λ c. omega arith)
     (λ c. omega arith)
     (λ c. omega arith)
     (λ c.
-    let f = c.before.before.before.before.before.before in
-    let k = f.before.before.before.before.before in
-    let p = k.requires in
-    wrote_open _ p.0.0 _ p.1.1.0 p.1.1.1 p.0.1.0 k.nearest_via-via.ensures k.length_at-moves.ensures.0 p.0.1.1.0 f.open_level.ensures))
+    let p = c.requires in
+    wrote_open _ p.0.0 _ p.1.1.0 p.1.1.1 p.0.1.0 c.nearest_via-via.ensures c.length_at-moves.ensures.0 p.0.1.1.0 c.open_level.ensures))

@@ -23,11 +23,10 @@ write_log_spec =
     (λ c. let p = c.requires.1.1.1 in (log_none p.0 p.1.0, length-replicate {A = ℕ} 4096 0))
     (λ c. sym c.loop-place.invariant.1)
     (λ c κs.
-    let d = c.before.before.before in
-    let h = d.loop-place.invariant.0 in
-    let p = d.requires in
+    let h = c.loop-place.invariant.0 in
+    let p = c.requires in
     let m = p.1.1.1.1 in
-    ((p.0.0, (p.0.1.0, (omega (arith, p.0.1.1, h.kept.long), omega (arith, d.loop-place.invariant.1)))), (p.1.0, (log_least h p.1.1.0, log_writing h d.loop-place-test.true m.0 m.1))))
+    ((p.0.0, (p.0.1.0, (omega (arith, p.0.1.1, h.kept.long), omega (arith, c.loop-place.invariant.1)))), (p.1.0, (log_least h p.1.1.0, log_writing h c.loop-place-test.true m.0 m.1))))
     (λ c. omega arith)
     (λ c. omega arith)
     (λ c. let i = c.loop-place.invariant in (log_more i.0 c.write_letter-walk.ensures, omega (arith, i.1, c.hints-in-loop-place-1.given)))
