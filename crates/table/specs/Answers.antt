@@ -9,7 +9,6 @@ use Rattle.table.specs.declared.Checked.{Checked}
 use Rattle.table.specs.declared.Checked.TheVariants as checked
 use Rattle.table.specs.declared.Written.{Written}
 use Rattle.table.specs.declared.Written.TheVariants as written
-use Rattle.table.specs.declared.Move.{Move}
 use Rattle.table.specs.declared.Got.{Got}
 use Rattle.table.specs.declared.Got.TheVariants as got
 use Rattle.table.specs.declared.KindAt.{KindAt}
