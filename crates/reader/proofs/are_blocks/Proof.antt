@@ -21,8 +21,7 @@ decreases-loop-d table states state depth ok₀ d₀ ok d = depth - d
 -- The block's words are there.
 low : (c : tie.After-place-at invariant-loop-d decreases-loop-d) → c.place-at.result + 65 ≤ 2148
 low c =
-    let l = c.before in
-    omega (arith, c.place-at.ensures.0, block_place_lem l.loop-d.d, deepest_is, l.loop-d-test.true, l.requires.1.1.1)
+    omega (arith, c.place-at.ensures.0, block_place_lem c.loop-d.d, deepest_is, c.loop-d-test.true, c.requires.1.1.1)
 
 pub are_blocks_spec : {M : Type 1} → statement M
 are_blocks_spec =
@@ -42,19 +41,15 @@ are_blocks_spec =
     (λ c. omega arith)
     (λ c. omega (arith, low c.before.before, state_size_lem))
     (λ c κs.
-    let d = c.before.before.before in
-    let at = d.place-at.result in
-    let f = d.before.before.before.before.before in
-    let l = low d in (
-      omega (arith, length_part f.args.state.now (at + 1) ((at + 65) - (at + 1)) (omega (arith, l, f.requires.1.1.0, state_size_lem))),
-      omega (arith, f.requires.1.0, (good_storable _ f.requires.0).states),
+    let at = c.place-at.result in
+    let l = low c.before.before.before in (
+      omega (arith, length_part c.args.state.now (at + 1) ((at + 65) - (at + 1)) (omega (arith, l, c.requires.1.1.0, state_size_lem))),
+      omega (arith, c.requires.1.0, (good_storable _ c.requires.0).states),
     ))
     (λ c. omega arith)
     (λ c. omega arith)
-    (λ c.
-    let d = c.before.before.before.before in
-    let l = d.before in (
-      omega (arith, l.loop-d-test.true),
-      blocks_more _ _ _ l.requires.1.0 d.place-at.ensures.0 l.loop-d.invariant.1 c.is_letter_word.ensures c.are_rows.ensures,
+    (λ c. (
+      omega (arith, c.loop-d-test.true),
+      blocks_more _ _ _ c.requires.1.0 c.place-at.ensures.0 c.loop-d.invariant.1 c.is_letter_word.ensures c.are_rows.ensures,
     ))
     (λ c. all_at _ _ _ c.loop-d.invariant.0 c.loop-d-test.false c.loop-d.invariant.1))

@@ -23,11 +23,8 @@ begin_spec =
     (λ c κs. let w = counted c.before.before.before in (w.good, (w.states, rw state_size_lem c.if-state-lt-STATE.false)))
     (λ c κs. tt)
     (λ c.
-    let d = c.before in
-    let w = when_refused _ _ (sym (ap checked_as d.in-Refused.is) ∙ d.check.ensures) in
+    let w = when_refused _ _ (sym (ap checked_as c.in-Refused.is) ∙ c.check.ensures) in
     meets_no_table _ _ _ w.0 w.1)
     (λ c. omega arith)
     (λ c.
-    let d = c.before.before.before in
-    let e = d.before.before in
-    meets_begun _ _ (counted e.before.before).good (rw state_size_lem e.if-state-lt-STATE.false) d.start-head.ensures.0 c.heard.ensures d.start-head.ensures.1))
+    meets_begun _ _ (counted c.before.before).good (rw state_size_lem c.if-state-lt-STATE.false) c.start-head.ensures.0 c.heard.ensures c.start-head.ensures.1))

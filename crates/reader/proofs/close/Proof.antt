@@ -14,45 +14,36 @@ use Rattle.reader.proofs.StepParts.{ready_states, settles_none, settles, written
 use Rattle.reader.proofs.close.Statement.{statement}
 use Rattle.reader.proofs.close.Tie as tie
 
-abbrev begin : tie.After-place-below → tie.Start
-begin c = c.before.before.before.before.before.before.before
-
-abbrev places : tie.After-joined-pairs → tie.After-place-below
-places c = c.before.before.before.before
-
 -- The block to join is the one right above, and in the words.
-deep : (c : tie.After-place-below) → 0 < (begin c).args.head.depth
+deep : (c : tie.After-place-below) → 0 < c.args.head.depth
 deep c = omega (arith, c.if-head-eq0.false)
 
 above : (c : tie.After-place-below) → c.place-below.result + 65 ≡ c.place-top.result
 above c =
-    let d = (begin c).args.head.depth in
+    let d = c.args.head.depth in
     omega (arith, deep c, block_place_lem d, block_place_lem (d - 1), c.place-below.ensures.0, c.place-top.ensures.0)
 
-room : (c : tie.After-place-below) → c.place-top.result + 65 ≤ length (begin c).args.state.now
+room : (c : tie.After-place-below) → c.place-top.result + 65 ≤ length c.args.state.now
 room c =
-    let r = (begin c).requires.1.0 in
-    omega (arith, block_place_lem (begin c).args.head.depth, c.place-top.ensures.0, r.low, r.long, deepest_is, state_size_lem)
+    let r = c.requires.1.0 in
+    omega (arith, block_place_lem c.args.head.depth, c.place-top.ensures.0, r.low, r.long, deepest_is, state_size_lem)
 
-closed : (c : tie.After-joined-pairs) → let s = (begin (places c)).args in
+closed : (c : tie.After-joined-pairs) → let s = (c).args in
     HoldsExactly c.joined-pairs.result (ClosedRows (parse s.table.now) s.state-1.now s.head.depth s.letter)
 closed c =
-    let p = places c in
-    let s = (begin p).args in
-    let e = p.place-top.ensures.0 in
+    let s = c.args in
+    let e = c.place-top.ensures.0 in
     let w = s.state-1.now in
     let d = s.head.depth in
-    closed_rows _ w (deep p) (lent_rows_after w (d - 1) p.place-below.ensures.0) (letter_at w d e) (lent_rows_after w d e) c.joined-pairs.ensures
+    closed_rows _ w (deep c.before.before.before) (lent_rows_after w (d - 1) c.place-below.ensures.0) (letter_at w d e) (lent_rows_after w d e) c.joined-pairs.ensures
 
-written : (c : tie.After-clear) → let j = c.before.before.before.before.before.before.before.before.before in
-    Closes (begin (places j)).args.head.depth j.joined-pairs.result (begin (places j)).args.state.now c.clear.new.0
+written : (c : tie.After-clear) → Closes (c).args.head.depth c.joined-pairs.result (c).args.state.now c.clear.new.0
 written c =
-    let p = places c.before.before.before.before.before.before.before.before.before in
     let store = c.store in
     record {
       middle = store.new.0;
-      joins = written_at (omega (arith, p.place-below.ensures.0)) refl store.ensures;
-      clears = written_at (sym p.place-top.ensures.0) (omega arith) c.clear.ensures;
+      joins = written_at (omega (arith, c.place-below.ensures.0)) refl store.ensures;
+      clears = written_at (sym c.place-top.ensures.0) (omega arith) c.clear.ensures;
     }
 
 pub close_spec : {M : Type 1} → statement M
@@ -69,29 +60,28 @@ close_spec =
     (λ c. omega arith)
     (λ c. omega arith)
     (λ c. omega arith)
+    (λ c. omega (arith, above c, room c))
+    (λ c. omega arith)
     (λ c. omega (arith, above c.before, room c.before))
     (λ c. omega arith)
-    (λ c. omega (arith, above c.before.before, room c.before.before))
     (λ c. omega arith)
     (λ c. omega arith)
     (λ c. omega arith)
     (λ c. omega arith)
-    (λ c. omega arith)
-    (λ c. omega (arith, room c.before.before))
+    (λ c. omega (arith, room c.before))
     (λ c κs.
-    let p = c.before.before.before in
-    let w = (begin p).args.state.now in
-    let d = (begin p).args.head.depth in
-    let g = (begin p).requires in
+    let w = c.args.state.now in
+    let d = c.args.head.depth in
+    let g = c.requires in
     let r = g.1.0 in
-    let e = p.place-top.ensures.0 in
-    rw (lent_rows_after w (d - 1) p.place-below.ensures.0, lent_rows_after w d e, letter_at w d e) (
+    let e = c.place-top.ensures.0 in
+    rw (lent_rows_after w (d - 1) c.place-below.ensures.0, lent_rows_after w d e, letter_at w d e) (
       (g.0.0, g.0.1.0),
       (
         g.0.1.1,
         (
           (ready_states _ _ r (good_storable _ g.0.0).states g.0.1.0 (d - 1) (omega arith), omega (arith, ready_long _ _ r d (omega arith))),
-          ((ready_letter _ _ r d (deep p) (omega arith)).1, g.1.1.0),
+          ((ready_letter _ _ r d (deep c.before.before) (omega arith)).1, g.1.1.0),
         ),
       ),
     ))
@@ -99,15 +89,12 @@ close_spec =
     (λ c κs. tt)
     (λ c. omega arith)
     (λ c. settles_none (closed c.before.before.before) c.is_empty.ensures c.if-is_empty.true c.stop-then-is_empty.ensures)
-    (λ c. let j = c.before.before.before in omega (arith, above (places j), room (places j)))
-    (λ c κs. let j = c.before.before.before.before in (omega (arith, above (places j), room (places j)), owned _ _ j.joined-pairs.type_inv))
+    (λ c. omega (arith, above c.before.before.before.before.before.before, room c.before.before.before.before.before.before))
+    (λ c κs. (omega (arith, above c.before.before.before.before.before.before.before, room c.before.before.before.before.before.before.before), owned _ _ c.joined-pairs.type_inv))
     (λ c. omega arith)
     (λ c κs.
-    let s = c.before.before.before in
-    (omega arith, omega (arith, room (places s.before.before.before.before.before), s.store.ensures.long)))
-    (λ c κs. let p = places c.before.before.before.before.before.before.before.before.before.before.before in ((begin p).requires.1.1.1, deep p))
+    (omega arith, omega (arith, room c.before.before.before.before.before.before.before.before.before.before.before, c.store.ensures.long)))
+    (λ c κs. (c.requires.1.1.1, deep c.before.before.before.before.before.before.before.before.before.before.before.before.before.before))
     (λ c. let w = written c.before.before.before in w.clears.long ∙ w.joins.long)
     (λ c.
-    let i = c.before.before.before.before.before.before.before.before.before.before in
-    let j = i.before.before in
-    settles (closed j) i.is_empty.ensures i.if-is_empty.false (owned _ _ j.joined-pairs.type_inv) (written c.before.before.before) c.close.ensures))
+    settles (closed c.before.before.before.before.before.before.before.before.before.before.before.before) c.is_empty.ensures c.if-is_empty.false (owned _ _ c.joined-pairs.type_inv) (written c.before.before.before) c.close.ensures))

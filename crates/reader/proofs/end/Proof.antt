@@ -23,10 +23,9 @@ use Rattle.reader.proofs.end.Tie as tie
 tested : (c : tie.After-is_accepting) → let a = c.args in
     finish_heard (parse a.table.now) (state_with a.head a.state.now) ≡ cond c.is_accepting.result accepted unfinished
 tested c =
-    let e = c.before.before.before in
-    let a = e.args in
-    let pre = e.requires in
-    end_flat _ _ _ (good_storable a.table.now pre.0.0).states pre.1 e.if-head.false e.if-head-ne0.false c.is_accepting.result
+    let a = c.args in
+    let pre = c.requires in
+    end_flat _ _ _ (good_storable a.table.now pre.0.0).states pre.1 c.if-head.false c.if-head-ne0.false c.is_accepting.result
     (subst (λ (r : List ℕ). T c.is_accepting.result ↔ FinishedBlock (automaton (parse a.table.now)) (Holds r)) (lent_rows a.state.now 0 c.place-top.ensures.0)
     c.is_accepting.ensures)
 
@@ -43,6 +42,6 @@ end_spec =
     (λ c. omega arith)
     (λ c. omega (arith, state_size_lem))
     (λ c. omega (arith, state_size_lem, block_place_lem 0))
-    (λ c κs. let b = c.before.before.before.before.before.before.before in (b.requires.0.0, (b.requires.0.1, omega (arith, c.is_accepting-arg-1.given.1))))
+    (λ c κs. (c.requires.0.0, (c.requires.0.1, omega (arith, c.is_accepting-arg-1.given.1))))
     (λ c. ap answered (sym (tested c.before ∙ rw c.if-is_accepting.true)))
     (λ c. ap answered (sym (tested c.before ∙ rw c.if-is_accepting.false))))

@@ -34,18 +34,13 @@ finish_spec =
     (λ c. answers _ c.args.state.now (meets_short _ _ (counted c.before.before).good _ (rw state_size_lem c.if-state-lt-STATE.true)))
     (λ c κs. let w = counted c.before.before in (w.good, (w.states, long c)))
     (λ c.
-    let e = c.before.before in
-    answers _ _ (meets_illegal _ _ (counted e.before.before).good (long e) _ (c.is_legal.ensures ∙ not-true _ c.if-not-is_legal.true)))
+    answers _ _ (meets_illegal _ _ (counted c.before.before).good (long c.before.before) _ (c.is_legal.ensures ∙ not-true _ c.if-not-is_legal.true)))
     (λ c κs. (long c.before.before, legal_leading _ _ (legal c)))
     (λ c κs.
-    let e = c.before.before.before in
-    let w = counted e.before.before in
-    ((w.good, w.states), head_ready _ _ (legal c.before) (long e) c.head_in.ensures))
+    let w = counted c.before.before in
+    ((w.good, w.states), head_ready _ _ (legal c.before) (long c.before.before.before) c.head_in.ensures))
     (λ c.
-    let d = c.before in
-    let w = when_refused _ _ (sym (ap checked_as d.in-Refused.is) ∙ d.check.ensures) in
-    answers _ d.args.state.now (meets_no_table _ _ _ w.0 w.1))
+    let w = when_refused _ _ (sym (ap checked_as c.in-Refused.is) ∙ c.check.ensures) in
+    answers _ c.args.state.now (meets_no_table _ _ _ w.0 w.1))
     (λ c.
-    let d = c.before in
-    let e = d.before.before.before in
-    answers _ _ (meets_finish _ _ (counted e.before.before).good (long e) (legal d.before) d.head_in.ensures c.end.ensures)))
+    answers _ _ (meets_finish _ _ (counted c.before.before).good (long c.before.before.before.before) (legal c.before.before) c.head_in.ensures c.end.ensures)))

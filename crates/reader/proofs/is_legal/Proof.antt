@@ -27,6 +27,5 @@ is_legal_spec =
     (λ c κs. omega (arith, low c.before.before, deepest_is))
     (λ c κs. omega (arith, c.place.ensures.1, state_size_lem))
     (λ c.
-    let d = c.before.before in
-    legal_tested _ _ (leading d.before.before) d.are_blocks.ensures c.place.ensures.0 c.together.ensures)
+    legal_tested _ _ (leading c.before.before.before.before) c.are_blocks.ensures c.place.ensures.0 c.together.ensures)
     (λ c. not_leading _ _ (c.is_leading.ensures ∙ c.if-is_leading.false)))

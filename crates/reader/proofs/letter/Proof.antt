@@ -24,18 +24,13 @@ letter_spec =
     (λ c κs. let w = counted c.before.before.before in (w.good, (w.states, rw state_size_lem c.if-state-lt-STATE.false)))
     (λ c. omega arith)
     (λ c.
-    let e = c.before.before.before in
-    meets_illegal _ _ (counted e.before.before).good (rw state_size_lem e.if-state-lt-STATE.false) _ (c.is_legal.ensures ∙ not-true _ c.if-not-is_legal.true))
+    meets_illegal _ _ (counted c.before.before).good (rw state_size_lem c.if-state-lt-STATE.false) _ (c.is_legal.ensures ∙ not-true _ c.if-not-is_legal.true))
     (λ c κs.
-    let e = c.before.before.before.before in
-    let w = counted e.before.before in
-    ((w.good, (w.states, w.letters)), (rw state_size_lem e.if-state-lt-STATE.false, c.is_legal.ensures ∙ not-false _ c.if-not-is_legal.false)))
+    let w = counted c.before.before in
+    ((w.good, (w.states, w.letters)), (rw state_size_lem c.if-state-lt-STATE.false, c.is_legal.ensures ∙ not-false _ c.if-not-is_legal.false)))
     (λ c.
-    let d = c.before in
-    let w = when_refused _ _ (sym (ap checked_as d.in-Refused.is) ∙ d.check.ensures) in
+    let w = when_refused _ _ (sym (ap checked_as c.in-Refused.is) ∙ c.check.ensures) in
     meets_no_table _ _ _ w.0 w.1)
     (λ c. omega arith)
     (λ c.
-    let d = c.before.before in
-    let e = d.before.before.before.before.before in
-    meets_legal _ _ (counted e.before.before).good (rw state_size_lem e.if-state-lt-STATE.false) (d.is_legal.ensures ∙ not-false _ d.if-not-is_legal.false) d.read.ensures))
+    meets_legal _ _ (counted c.before.before).good (rw state_size_lem c.if-state-lt-STATE.false) (c.is_legal.ensures ∙ not-false _ c.if-not-is_legal.false) c.read.ensures))

@@ -13,29 +13,24 @@ use Rattle.reader.proofs.StepParts.{opens_none, opens_some, written_at, written_
 use Rattle.reader.proofs.open.Statement.{statement}
 use Rattle.reader.proofs.open.Tie as tie
 
-abbrev begin : tie.After-together-halves → tie.Start
-begin c = c.before.before.before.before.before.before
-
-halves : (c : tie.After-together-halves) → let s = (begin c).args in
+halves : (c : tie.After-together-halves) → let s = c.args in
     DigitsExactly c.together-halves.result (InSome (rows_in s.state-1.now s.head.depth) 0 s.states)
-halves c = rw (lent_rows (begin c).args.state.now (begin c).args.head.depth c.place-top.ensures.0) at c.together-halves.ensures
+halves c = rw (lent_rows c.args.state.now c.args.head.depth c.place-top.ensures.0) at c.together-halves.ensures
 
-reached : (c : tie.After-joined_row-reached) → let s = (begin c.before.before).args in
+reached : (c : tie.After-joined_row-reached) → let s = c.args in
     DigitsExactly c.joined_row-reached.result (Reached c.together-halves.result (letter_rows s.moves.now s.letter))
-reached c = let s = (begin c.before.before).args in rw (lent_letter s.moves.now s.letter) at c.joined_row-reached.ensures
+reached c = let s = c.args in rw (lent_letter s.moves.now s.letter) at c.joined_row-reached.ensures
 
-room : (c : tie.After-place-next) → c.place-next.result + 65 ≤ length (begin c.before.before.before.before.before).args.state.now
+room : (c : tie.After-place-next) → c.place-next.result + 65 ≤ length c.args.state.now
 room c =
-    let s = begin c.before.before.before.before.before in
-    omega (arith, state_size_lem, deepest_is, block_place_lem (s.args.head.depth + 1), c.place-next.ensures.0, s.requires.0.1.1.0, s.requires.1.0)
+    omega (arith, state_size_lem, deepest_is, block_place_lem (c.args.head.depth + 1), c.place-next.ensures.0, c.requires.0.1.1.0, c.requires.1.0)
 
-written : (c : tie.After-store) → let s = (begin c.before.before.before.before.before.before.before.before.before).args in
+written : (c : tie.After-store) → let s = c.args in
     Opens s.letter s.head.depth c.diagonal.result s.state-1.now c.store.new.0
 written c =
-    let k = c.before.before.before.before in
-    let d = (begin k.before.before.before.before.before).args.head.depth in
-    written_at (omega (arith, k.place-next.ensures.0, block_place_lem (d + 1), block_place_lem (suc d))) refl
-    (written_block c.diagonal.result (omega (arith, room k)) c.store.ensures)
+    let d = c.args.head.depth in
+    written_at (omega (arith, c.place-next.ensures.0, block_place_lem (d + 1), block_place_lem (suc d))) refl
+    (written_block c.diagonal.result (omega (arith, room c.before.before.before.before)) c.store.ensures)
 
 pub open_spec : {M : Type 1} → statement M
 open_spec =
@@ -50,36 +45,28 @@ open_spec =
     (λ c. omega arith)
     (λ c. omega (arith, state_size_lem, deepest_is, block_place_lem c.args.head.depth))
     (λ c κs.
-    let s = c.before.before.before.before.before in
-    rw (lent_rows s.args.state.now s.args.head.depth c.place-top.ensures.0)
-    (omega arith, omega (arith, s.requires.0.0, s.requires.1.1.0.rows)))
+    rw (lent_rows c.args.state.now c.args.head.depth c.place-top.ensures.0)
+    (omega arith, omega (arith, c.requires.0.0, c.requires.1.1.0.rows)))
     (λ c. omega arith)
     (λ c. omega arith)
     (λ c. omega arith)
     (λ c. omega arith)
     (λ c. omega arith)
     (λ c κs.
-    let s = begin c.before in
-    rw (lent_letter s.args.moves.now s.args.letter) (omega (arith, letter_long s.args.moves.now s.requires.1.1.1 s.requires.0.1.0)))
+    rw (lent_letter c.args.moves.now c.args.letter) (omega (arith, letter_long c.args.moves.now c.requires.1.1.1 c.requires.0.1.0)))
     (λ c κs. tt)
     (λ c. omega arith)
     (λ c.
-    let r = c.before.before in
-    let g = r.before.before in
-    opens_none (begin g).requires.1.1.0 (halves g) (reached r) (omega (arith, c.if-reached-eq0.true)) c.stop.ensures)
-    (λ c. omega (arith, deepest_is, (begin c.before.before.before.before).requires.0.1.1.0))
-    (λ c κs. omega (arith, (begin c.before.before.before.before).requires.0.1.1.0))
+    opens_none c.requires.1.1.0 (halves c.before.before.before.before) (reached c.before.before) (omega (arith, c.if-reached-eq0.true)) c.stop.ensures)
+    (λ c. omega (arith, deepest_is, c.requires.0.1.1.0))
+    (λ c κs. omega (arith, c.requires.0.1.1.0))
     (λ c. omega arith)
     (λ c. omega (arith, room c))
     (λ c. omega arith)
     (λ c κs. tt)
     (λ c κs. (rw length-set (omega (arith, room c.before.before.before)), owned _ _ c.diagonal.type_inv))
-    (λ c κs. let p = (begin c.before.before.before.before.before.before.before.before.before.before.before).requires.0 in (p.1.1.1, p.1.1.0))
+    (λ c κs. let p = c.requires.0 in (p.1.1.1, p.1.1.0))
     (λ c. (written c.before.before.before).long)
     (λ c.
-    let d = c.before.before.before.before.before in
-    let k = d.before.before in
-    let r = k.before.before.before in
-    let g = r.before.before in
-    opens_some (begin g).requires.1.1.0 (halves g) (reached r) k.if-reached-eq0.false (owned _ _ d.diagonal.type_inv) d.diagonal.ensures
+    opens_some c.requires.1.1.0 (halves c.before.before.before.before.before.before.before.before.before.before.before.before) (reached c.before.before.before.before.before.before.before.before.before.before) c.if-reached-eq0.false (owned _ _ c.diagonal.type_inv) c.diagonal.ensures
     (written c.before.before.before) c.«open».ensures))

@@ -22,15 +22,13 @@ read_spec =
     (λ c κs. (c.requires.0.0, inl refl))
     (λ c. omega arith)
     (λ c κs.
-    let d = c.before.before.before.before.before.before in
-    let h = d.before.before in
-    let p = h.requires in (
+    let p = c.requires in (
       (p.0.0, p.0.1.0),
       (
         (c.by_letter-moves.ensures, c.chain-from.ensures),
         (
-          head_ready _ _ p.1.1 p.1.0 h.head_in-head.ensures,
-          (d.if-head.false, d.letter_verdict-number.ensures _ ∙ c.if-number-ne0.false),
+          head_ready _ _ p.1.1 p.1.0 c.head_in-head.ensures,
+          (c.if-head.false, c.letter_verdict-number.ensures _ ∙ c.if-number-ne0.false),
         ),
       ),
     ))
@@ -38,10 +36,5 @@ read_spec =
     (λ c κs. tt)
     (λ c. omega arith)
     (λ c.
-    let w = c.before.before.before in
-    let d = w.before.before.before.before in
-    let e = d.before.before.before.before.before.before in
-    let h = e.before.before.before in
-    let a = h.before.before.before.before in
-    meets_letter _ _ _ h.head_in-head.ensures e.if-head.false (e.letter_verdict-number.ensures _ ∙ e.if-number-ne0.false)
-    (good_storable a.args.table.now a.requires.0.0).states d.step-next.ensures w.put_head.ensures c.heard-2.ensures))
+    meets_letter _ _ _ c.head_in-head.ensures c.if-head.false (c.letter_verdict-number.ensures _ ∙ c.if-number-ne0.false)
+    (good_storable c.args.table.now c.requires.0.0).states c.step-next.ensures c.put_head.ensures c.heard-2.ensures))

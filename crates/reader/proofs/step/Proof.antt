@@ -16,9 +16,6 @@ use Rattle.reader.proofs.Verdicts.{Takes, takes}
 use Rattle.reader.proofs.step.Statement.{statement}
 use Rattle.reader.proofs.step.Tie as tie
 
-abbrev begin : tie.After-kind_at → tie.Start
-begin c = c.before.before.before.before
-
 taken : (c : tie.Start) → Takes (parse c.args.table.now) c.args.head c.args.letter
 taken c = takes _ _ _ _ c.requires.1.1.1.1
 
@@ -28,14 +25,14 @@ few c = omega (arith, (taken c).own, (good_storable _ c.requires.0.0).letters)
 small : (c : tie.Start) → state_count (parse c.args.table.now) ≤ 64
 small c = (good_storable _ c.requires.0.0).states
 
-told : (c : tie.After-kind_at) {kind : Kind} → some kind ≡ kind_as c.kind_at.result → kind_in (parse (begin c).args.table.now) (begin c).args.letter ≡ kind
+told : (c : tie.After-kind_at) {kind : Kind} → some kind ≡ kind_as c.kind_at.result → kind_in (parse c.args.table.now) c.args.letter ≡ kind
 told c e = told_kind _ _ (e ∙ c.kind_at.ensures)
 
-opens : (c : tie.In-Open) → kind_in (parse (begin c.before.before).args.table.now) (begin c.before.before).args.letter ≡ opening
-opens c = told c.before.before (sym (ap kind_as c.in-Open.is))
+opens : (c : tie.In-Open) → kind_in (parse c.args.table.now) c.args.letter ≡ opening
+opens c = told c.before (sym (ap kind_as c.in-Open.is))
 
-closes : (c : tie.In-Close) → kind_in (parse (begin c.before.before).args.table.now) (begin c.before.before).args.letter ≡ closing
-closes c = told c.before.before (sym (ap kind_as c.in-Close.is))
+closes : (c : tie.In-Close) → kind_in (parse c.args.table.now) c.args.letter ≡ closing
+closes c = told c.before (sym (ap kind_as c.in-Close.is))
 
 rows : (c : tie.Start) → RowsBelow c.args.states (rows_in c.args.state.now c.args.head.depth)
 rows c = ready_states _ _ c.requires.1.1.0 (small c) c.requires.0.1 _ (omega arith)
@@ -47,39 +44,29 @@ step_spec =
     (λ c κs. tt)
     (λ c. omega arith)
     (λ c κs.
-    let s = begin c.before.before.before in
-    let r = s.pre.1.1.0 in
-    ((omega (arith, small s, s.pre.0.1), (few s, (r.low, (taken s).more))), (r.long, (rows s, s.pre.1.0.0.long))))
+    let r = c.pre.1.1.0 in
+    ((omega (arith, small c.before.before.before.before.before.before, c.pre.0.1), (few c.before.before.before.before.before.before, (r.low, (taken c.before.before.before.before.before.before).more))), (r.long, (rows c.before.before.before.before.before.before, c.pre.1.0.0.long))))
     (λ c. omega arith)
     (λ c κs.
-    let s = begin c.before.before.before in
-    ((omega (arith, small s, s.pre.0.1), (few s, ((taken s).low (opens c.before), (taken s).more))), (s.pre.1.1.0.long, (rows s, s.pre.1.0.0.long))))
+    ((omega (arith, small c.before.before.before.before.before.before, c.pre.0.1), (few c.before.before.before.before.before.before, ((taken c.before.before.before.before.before.before).low (opens c.before), (taken c.before.before.before.before.before.before).more))), (c.pre.1.1.0.long, (rows c.before.before.before.before.before.before, c.pre.1.0.0.long))))
     (λ c. omega arith)
     (λ c κs.
-    let s = begin c.before.before.before in
-    ((s.pre.0.0, (s.pre.0.1, s.pre.1.0.1)), (s.pre.1.1.0, (closes c.before, (taken s).more))))
+    ((c.pre.0.0, (c.pre.0.1, c.pre.1.0.1)), (c.pre.1.1.0, (closes c.before, (taken c.before.before.before.before.before.before).more))))
     (λ c. omega arith)
     (λ c κs. tt)
     (λ c. omega arith)
     (λ c.
-    let d = c.before.before.before.before in
-    let s = begin d.before.before in
-    let p = s.pre in
-    plain_step _ (good_table _ p.0.0) (small s) _ _ p.1.1.0 p.1.1.1.0 p.1.0.0 (few s)
-    (told d.before.before (sym (ap kind_as d.in-Plain.is))) c.plain.ensures)
+    let p = c.pre in
+    plain_step _ (good_table _ p.0.0) (small c.before.before.before.before.before.before.before.before.before) _ _ p.1.1.0 p.1.1.1.0 p.1.0.0 (few c.before.before.before.before.before.before.before.before.before)
+    (told c.before.before.before.before.before (sym (ap kind_as c.in-Plain.is))) c.plain.ensures)
     (λ c. omega arith)
     (λ c.
-    let d = c.before.before.before.before in
-    let s = begin d.before.before in
-    let p = s.pre in
-    open_step _ (good_table _ p.0.0) (small s) _ _ p.1.1.0 p.1.1.1.0 p.1.0.0 (few s) (taken s).own (opens d) ((taken s).low (opens d))
-    c.before.before.«open».ensures)
+    let p = c.pre in
+    open_step _ (good_table _ p.0.0) (small c.before.before.before.before.before.before.before.before.before) _ _ p.1.1.0 p.1.1.1.0 p.1.0.0 (few c.before.before.before.before.before.before.before.before.before) (taken c.before.before.before.before.before.before.before.before.before).own (opens c.before.before.before.before) ((taken c.before.before.before.before.before.before.before.before.before).low (opens c.before.before.before.before))
+    c.«open».ensures)
     (λ c. omega arith)
     (λ c.
-    let d = c.before.before.before.before in
-    let s = begin d.before.before in
-    let p = s.pre in
-    close_step _ (good_table _ p.0.0) (small s) _ _ p.1.1.0 p.1.1.1.0 (closes d) c.close.ensures)
+    let p = c.pre in
+    close_step _ (good_table _ p.0.0) (small c.before.before.before.before.before.before.before.before.before) _ _ p.1.1.0 p.1.1.1.0 (closes c.before.before.before.before) c.close.ensures)
     (λ c.
-    let k = c.before.before.before in
-    absurd (told_none _ (taken (begin k)).own (sym (ap kind_as c.in-NoLetter.is) ∙ k.kind_at.ensures))))
+    absurd (told_none _ (taken c.before.before.before.before.before.before).own (sym (ap kind_as c.in-NoLetter.is) ∙ c.kind_at.ensures))))
