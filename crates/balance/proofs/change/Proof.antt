@@ -21,7 +21,7 @@ change_spec =
     tie.close
     (tie.spec
     (λ c κs. tt) (λ c. search rules) (λ c. search rules) (λ c. search rules) (λ c. search rules)
-    (λ c. told c.before.before (sym (ap kind_as c.in-Plain.is)))
-    (λ c. told c.before.before (sym (ap kind_as c.in-Open.is)))
-    (λ c. told c.before.before (sym (ap kind_as c.in-Close.is)))
+    (λ c. told c.before (sym (ap kind_as c.in-Plain.is)))
+    (λ c. told c.before (sym (ap kind_as c.in-Open.is)))
+    (λ c. told c.before (sym (ap kind_as c.in-Close.is)))
     (λ c. sym (ap change (told_plain _ _ (sym (ap kind_as c.in-NoLetter.is) ∙ c.kind_at.ensures)))))

@@ -23,23 +23,17 @@ decreases-loop-i table letters log added tally₀ i₀ i-end tally i = length lo
 
 -- A letter of the table: what is read for it is what it adds.
 module _ (c : tie.Else-letter-letters invariant-loop-i decreases-loop-i) where
-  abbrev turn : tie.At-loop-i invariant-loop-i decreases-loop-i
-  turn = c.before.before.before
-
-  abbrev entry : tie.Start invariant-loop-i decreases-loop-i
-  entry = turn.before.before.before.before
-
   abbrev letter : ℕ
-  letter = get_or entry.args.log.now turn.loop-i.i 0
+  letter = get_or c.args.log.now c.loop-i.i 0
 
-  own : letter < letter_count (parse entry.args.table.now)
-  own = omega (arith, c.if-letter-letters.false, entry.requires.1.0)
+  own : letter < letter_count (parse c.args.table.now)
+  own = omega (arith, c.if-letter-letters.false, c.requires.1.0)
 
   few : letter < 32
-  few = omega (arith, own, (good_storable _ entry.requires.0).letters)
+  few = omega (arith, own, (good_storable _ c.requires.0).letters)
 
-  added_is : to_z w32 (of_z w32 (get_or turn.changes-added.result letter (pos 0))) ≡ change (kind_in (parse entry.args.table.now) letter)
-  added_is = ap (λ x. to_z w32 (of_z w32 x)) (turn.changes-added.ensures letter few) ∙ to_z-of_z w32 _ (change_fits (kind_in (parse entry.args.table.now) letter))
+  added_is : to_z w32 (of_z w32 (get_or c.changes-added.result letter (pos 0))) ≡ change (kind_in (parse c.args.table.now) letter)
+  added_is = ap (λ x. to_z w32 (of_z w32 x)) (c.changes-added.ensures letter few) ∙ to_z-of_z w32 _ (change_fits (kind_in (parse c.args.table.now) letter))
 
 pub weigh_spec : {M : Type 1} → statement M
 weigh_spec =
@@ -56,10 +50,9 @@ weigh_spec =
     weighed_past (parse a.table.now) a.log.now c.loop-i-test.true (omega (arith, c.if-letter-letters.true)))
     (λ c. omega (arith, few c))
     few
-    (λ c κs. rw (added_is c.before) (next_fits _ _ c.loop-i-test.true (turn c.before).loop-i.invariant.1 (entry c.before).requires.1.1))
+    (λ c κs. rw (added_is c.before) (next_fits _ _ c.loop-i-test.true c.loop-i.invariant.1 c.requires.1.1))
     (λ c. omega arith)
     (λ c. omega arith)
     (λ c.
-    let d = c.before.before in
-    (omega arith, rw (c.after-tally.ensures, added_is d) (weighed_more _ _ d.loop-i-test.true (turn d).loop-i.invariant.1 (own d))))
+    (omega arith, rw (c.after-tally.ensures, added_is c.before.before) (weighed_more _ _ c.loop-i-test.true c.loop-i.invariant.1 (own c.before.before))))
     (λ c. weighed_all _ _ c.loop-i.invariant.1 (omega arith)))

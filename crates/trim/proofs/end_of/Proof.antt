@@ -21,13 +21,11 @@ end_of_spec =
     (λ c. (omega arith, before_next c.requires.1))
     (λ c κs. omega arith)
     (λ c.
-    let d = c.before.before in
-    let l = d.loop-k in
-    let p = d.requires in
-    (l.invariant.0, cut_of l.invariant.1 (from_here l.k p.0 (omega (arith, p.1.after.at l.k l.invariant.0 d.loop-k-test.true))) (omega arith)))
+    let l = c.loop-k in
+    let p = c.requires in
+    (l.invariant.0, cut_of l.invariant.1 (from_here l.k p.0 (omega (arith, p.1.after.at l.k l.invariant.0 c.loop-k-test.true))) (omega arith)))
     (λ c. omega arith)
     (λ c. omega arith)
     (λ c.
-    let d = c.before.before in
-    (omega arith, before_to d.requires.0 d.loop-k-test.true (omega arith)))
+    (omega arith, before_to c.requires.0 c.loop-k-test.true (omega arith)))
     (λ c. (c.loop-k.invariant.0, cut_of c.loop-k.invariant.1 (from_none _ c.loop-k-test.false) (omega arith))))

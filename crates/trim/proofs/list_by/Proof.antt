@@ -30,29 +30,22 @@ list_by_spec =
     (λ c. omega arith)
     (λ c. omega arith)
     (λ c.
-    let d = c.before.before.before.before.before.before in
-    let k = d.before.before in
-    let p = k.requires in
+    let p = c.requires in
     appended_same
-    (plain_rows p.1.0.0 p.1.0.1 p.1.1 (good_table _ p.0.0) (told_kind _ _ (sym (ap kind_as d.in-Plain.is) ∙ k.kind_at.ensures))
+    (plain_rows p.1.0.0 p.1.0.1 p.1.1 (good_table _ p.0.0) (told_kind _ _ (sym (ap kind_as c.in-Plain.is) ∙ c.kind_at.ensures))
     _ c.targets.ensures)
     c.append.ensures)
     (λ c. omega arith)
     (λ c.
-    let d = c.before.before.before.before in
-    let k = d.before.before in
-    let p = k.requires in
+    let p = c.requires in
     appended_same
-    (open_rows p.1.0.0 p.1.0.1 p.1.1 (told_kind _ _ (sym (ap kind_as d.in-Open.is) ∙ k.kind_at.ensures)))
+    (open_rows p.1.0.0 p.1.0.1 p.1.1 (told_kind _ _ (sym (ap kind_as c.in-Open.is) ∙ c.kind_at.ensures)))
     c.list_marked.ensures)
     (λ c. omega arith)
     (λ c.
-    let d = c.before.before.before.before in
-    let k = d.before.before in
-    let p = k.requires in
+    let p = c.requires in
     appended_same
-    (close_rows p.1.0.0 p.1.0.1 p.1.1 (told_kind _ _ (sym (ap kind_as d.in-Close.is) ∙ k.kind_at.ensures)))
+    (close_rows p.1.0.0 p.1.0.1 p.1.1 (told_kind _ _ (sym (ap kind_as c.in-Close.is) ∙ c.kind_at.ensures)))
     c.list_marked-in-Close.ensures)
     (λ c.
-    let k = c.before.before in
-    absurd (told_none _ k.requires.0.1.0 (sym (ap kind_as c.in-NoLetter.is) ∙ k.kind_at.ensures))))
+    absurd (told_none _ c.requires.0.1.0 (sym (ap kind_as c.in-NoLetter.is) ∙ c.kind_at.ensures))))

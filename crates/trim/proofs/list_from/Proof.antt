@@ -36,37 +36,34 @@ list_from_spec =
     (λ c. (omega arith, (listed_none _ (omega arith), (c.first_move-at.ensures, omega arith))))
     (λ c κs. (rising_part _ c.requires.0.0 c.checked_moves-part.ensures, c.loop-letter.invariant.1.1.0))
     (λ c. omega (arith, c.loop-letter.invariant.1.1.0.before.inside))
-    (λ c. omega (arith, c.before.before.end_of_lem.ensures.1.before.inside))
+    (λ c. omega (arith, c.end_of-end.ensures.1.before.inside))
     (λ c. omega arith)
     (λ c. omega arith)
-    (λ c. omega (arith, c.before.before.end_of_lem.ensures.1.before.inside))
+    (λ c. omega (arith, c.end_of-end.ensures.1.before.inside))
     (λ c κs.
-    let e = c.before.before.before in
-    let d = e.before in
-    let p = d.requires in
-    let i = d.loop-letter.invariant in (
-      (p.0.0, (low d, (omega (arith, appended_low i.1.0.appended), omega (arith, appended_long i.1.0.appended)))),
-      (p.1, block_of _ p.0.0 d.checked_moves-part.ensures i.0 (low d) i.1.1.0 e.end_of_lem.ensures.1),
+    let p = c.requires in
+    let i = c.loop-letter.invariant in (
+      (p.0.0, (low c.before.before.before.before, (omega (arith, appended_low i.1.0.appended), omega (arith, appended_long i.1.0.appended)))),
+      (p.1, block_of _ p.0.0 c.checked_moves-part.ensures i.0 (low c.before.before.before.before) i.1.1.0 c.end_of-end.ensures.1),
     ))
     (λ c. let p = c.requires in omega (arith, state_low _ p.0.0 p.1.1, c.loop-letter.invariant.0, (good_storable _ p.0.0).letters))
     (λ c. omega arith)
     (λ c. omega arith)
     (λ c.
-    let d = c.before.before in
-    let p = d.requires in
-    let i = d.loop-letter.invariant in (
+    let p = c.requires in
+    let i = c.loop-letter.invariant in (
       omega arith,
       (
         listed_more i.1.0
             (⊎_elim
-            (λ w. appended_as w.3.ensures w.6 w.7)
+            (λ w. appended_as w.list_by-total.ensures w.scratch-is w.total-is)
             (λ w.
             appended_as
-            (appended_same (sym (no_rows p.1.1 (block_none _ p.0.0 d.checked_moves-part.ensures i.0 i.1.1.0 c.before.end_of_lem.ensures.1 w.0.left)))
+            (appended_same (sym (no_rows p.1.1 (block_none _ p.0.0 c.checked_moves-part.ensures i.0 i.1.1.0 c.end_of-end.ensures.1 w.if-at-end.false)))
             (appended_none _ (omega (arith, appended_low i.1.0.appended))))
-            w.1 w.2)
-            c.if-at-end.branch),
-        (c.before.end_of_lem.ensures.1, omega arith),
+            w.scratch-is w.total-is)
+            c.if-at-end.branch-raw),
+        (c.end_of-end.ensures.1, omega arith),
       ),
     ))
     (λ c. appended_long c.loop-letter.invariant.1.0.appended)

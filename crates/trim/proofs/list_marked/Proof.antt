@@ -29,22 +29,19 @@ list_marked_spec =
     (λ c. walk_none _ c.ranges.marks.fits (omega (arith, c.requires)))
     (λ c. omega (arith, low c))
     (λ c. bytes_fit (low c.before))
-    (λ c. low c.before)
+    (λ c. low c.before.before)
     (λ c κs. c.requires.1)
-    (λ c. bytes_fit (low c.before.before.before))
-    (λ c. low c.before.before.before)
+    (λ c. bytes_fit (low c.before.before.before.before))
+    (λ c. low c.before.before.before.before.before)
     (λ c κs.
-    let d = c.before.before.before.before in
-    let p = d.requires.0 in
-    let w = d.loop-rest.invariant.appended in
-    ((omega arith, (appended_low w, omega (arith, p, appended_long w))), (p.1.0, (p.0, omega (arith, low d)))))
+    let p = c.requires.0 in
+    let w = c.loop-rest.invariant.appended in
+    ((omega arith, (appended_low w, omega (arith, p, appended_long w))), (p.1.0, (p.0, omega (arith, low c.before.before.before.before.before.before)))))
     (λ c. omega arith)
     (λ c.
     let l = c.loop-rest in
     omega (arith, and_le_r l.rest (l.rest - 1)))
     (λ c.
-    let d = c.before.before in
-    let f = d.before.before.before.before.before in
-    walk_more (omega (arith, f.loop-rest-test.true)) f.loop-rest.invariant (marked_row _ _ _ _ _ _ _ _ d.targets.ensures d.append-total.ensures))
+    walk_more (omega (arith, c.loop-rest-test.true)) c.loop-rest.invariant (marked_row _ _ _ _ _ _ _ _ c.targets.ensures c.append-total.ensures))
     (λ c. appended_long c.loop-rest.invariant.appended)
     (λ c. walk_all c.loop-rest-test.false c.loop-rest.invariant))

@@ -36,10 +36,9 @@ list_moves_spec =
     (λ c. bytes_fit (low c))
     low
     (λ c κs.
-    let d = c.before.before.before.before.before in
-    let p = d.requires in
-    let h = d.loop-i.invariant.0.appended in
-    ((p.0.0, (p.0.1.0, (omega (arith, appended_low h), omega (arith, p.0.1.1, appended_long h)))), (p.1.guides, plan_from p.1 d.loop-i-test.true)))
+    let p = c.requires in
+    let h = c.loop-i.invariant.0.appended in
+    ((p.0.0, (p.0.1.0, (omega (arith, appended_low h), omega (arith, p.0.1.1, appended_long h)))), (p.1.guides, plan_from p.1 c.loop-i-test.true)))
     (λ c. omega (arith, low c.before.before.before.before.before.before.before.before))
     (λ c. omega arith)
     (λ c. (listed_more c.loop-i.invariant.0 c.list_from-total.ensures, omega (arith, c.loop-i-test.true)))

@@ -13,5 +13,5 @@ state_byte_spec =
     (λ c κs. tt)
     (λ c κs. tt)
     (λ c. let a = c.args in omega (arith, flag_most (eqb a.p a.o) 1 c.flag.ensures, flag_most (eqb a.p a.q) 2 c.flag-then-is_initial-is_final.ensures))
-    (λ c. let d = c.before.before.before in byte_atop _ _ _ _ d.is_initial.ensures d.is_final.ensures c.if-is_initial-is_final.true c.flag.ensures c.flag-then-is_initial-is_final.ensures)
+    (λ c. byte_atop _ _ _ _ c.is_initial.ensures c.is_final.ensures c.if-is_initial-is_final.true c.flag.ensures c.flag-then-is_initial-is_final.ensures)
     (λ c. byte_inside _ _ _ _ c.is_initial.ensures c.is_final.ensures c.if-is_initial-is_final.false))

@@ -15,8 +15,7 @@ decreases-loop-k block mark here r₀ k₀ r k = length block / 4 - k
 
 low : (c : tie.After-byte_wide-then-byte_wide-mark invariant-loop-k decreases-loop-k) → c.byte_wide-then-byte_wide-mark.result < 64
 low c =
-    let d = c.before.before.before.before.before in
-    omega (arith, c.byte_wide-then-byte_wide-mark.ensures.0, d.requires.at d.loop-k.k d.loop-k-test.true)
+    omega (arith, c.byte_wide-then-byte_wide-mark.ensures.0, c.requires.at c.loop-k.k c.loop-k-test.true)
 
 pub targets_spec : {M : Type 1} → statement M
 targets_spec =
@@ -34,11 +33,10 @@ targets_spec =
     (λ c. omega arith)
     (λ c κs. tt)
     (λ c. bytes_fit (low c))
-    low
+    (λ c. low c.before)
     (λ c. omega arith)
     (λ c.
-    let d = c.before.before.before in
-    (arrived_take d.loop-k.invariant.0 (d.byte_wide.ensures.0 ∙ d.if-byte_wide-mark.true) c.byte_wide-then-byte_wide-mark.ensures.0, omega arith))
+    (arrived_take c.loop-k.invariant.0 (c.byte_wide.ensures.0 ∙ c.if-byte_wide-mark.true) c.byte_wide-then-byte_wide-mark.ensures.0, omega arith))
     (λ c. omega arith)
     (λ c. (arrived_skip c.loop-k.invariant.0 (λ e. c.if-byte_wide-mark.false (omega arith)), omega arith))
     (λ c. arrived_all c.loop-k.invariant.1 c.loop-k-test.false c.loop-k.invariant.0))

@@ -12,10 +12,9 @@ use Rattle.trim.proofs.trim_checked.Tie as tie
 -- What was listed are the rows of the trimmed states.
 listed : (c : tie.After-list_states-count) →
     let a = c.args in
-    Appended 64 (trio_rows (trim_states (parse a.table.now))) a.scratch.now 0 c.list_states-count.new.1.1.0 c.list_states-count.result
+    Appended 64 (trio_rows (trim_states (parse a.table.now))) a.scratch.now 0 c.list_states-count.new.scratch c.list_states-count.result
 listed c =
-    let d = c.before.before in
-    states_listed _ d.requires.0.good d.balanced_pairs-balanced.ensures d.live_levels-live.ensures c.list_states-count.ensures
+    states_listed _ c.requires.0.good c.balanced_pairs-balanced.ensures c.live_levels-live.ensures c.list_states-count.ensures
 
 pub trim_checked_spec : {M : Type 1} → statement M
 trim_checked_spec =
@@ -30,20 +29,15 @@ trim_checked_spec =
     let m = many_states _ _ h (omega (arith, c.if-count-gt-STATES.true)) in
     (m.0, (m.1, kept_more (omega arith) h.kept)))
     (λ c κs.
-    let d = c.before.before.before.before in
-    (omega (arith, c.if-count-gt-STATES.false), omega (arith, d.list_states-count.ensures.kept.long, d.requires.1.1)))
+    (omega (arith, c.if-count-gt-STATES.false), omega (arith, c.list_states-count.ensures.kept.long, c.requires.1.1)))
     (λ c κs.
-    let e = c.before.before.before.before in
-    let d = e.before.before.before in
-    let v = d.before.before in
-    let p = v.requires in
-    let h = listed d in (
+    let p = c.requires in
+    let h = listed c.before.before.before.before.before.before in (
       (p.0, (p.1.0, omega (arith, appended_long h, p.1.1))),
-      ((v.balanced_pairs-balanced.ensures, v.live_levels-live.ensures), column_trios _ h e.if-count-gt-STATES.false c.read_back-states.ensures),
+      ((c.balanced_pairs-balanced.ensures, c.live_levels-live.ensures), column_trios _ h c.if-count-gt-STATES.false c.read_back-states.ensures),
     ))
     (λ c. omega arith)
     (λ c. omega arith)
     (λ c.
-    let f = c.before.before.before.before in
-    let r = f.trim_with_states.ensures in
-    (r.0, (r.1.0, kept_then (kept_more (omega arith) (listed f.before.before.before.before.before.before.before.before).kept) r.1.1))))
+    let r = c.trim_with_states.ensures in
+    (r.0, (r.1.0, kept_then (kept_more (omega arith) (listed c.before.before.before.before.before.before.before.before.before.before.before).kept) r.1.1))))

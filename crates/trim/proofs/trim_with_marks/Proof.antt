@@ -15,7 +15,7 @@ use Rattle.trim.proofs.trim_with_marks.Tie as tie
 -- What was listed stands in scratch, where it is not too much.
 listed : (c : tie.After-list_moves-moves) → c.list_moves-moves.result ≤ 1024 →
     let a = c.args in
-    ListedIn c.list_moves-moves.new.1.1.1.0 c.list_moves-moves.result (trim_table (parse a.table.now)).moves
+    ListedIn c.list_moves-moves.new.scratch c.list_moves-moves.result (trim_table (parse a.table.now)).moves
 listed c l =
     let h = c.list_moves-moves.ensures in
     listed_in h l (omega (arith, scratch_size_lem, c.requires.0.1.1, appended_long h))
@@ -36,28 +36,23 @@ trim_with_marks_spec =
     (p.0, c.plan_of-plan.ensures.of _ p.1.0 p.1.1.0 p.1.1.1))
     (λ c. omega arith)
     (λ c.
-    let d = c.before.before.before in
-    let m = many_moves _ _ d.list_moves-moves.ensures (omega (arith, c.if-moves-gt-MOVES.true)) in
-    (m.0, (m.1, d.list_moves-moves.ensures.kept)))
+    let m = many_moves _ _ c.list_moves-moves.ensures (omega (arith, c.if-moves-gt-MOVES.true)) in
+    (m.0, (m.1, c.list_moves-moves.ensures.kept)))
     (λ c. omega (arith, few c.before.before.before))
     (λ c. omega (arith, few c.before.before.before.before))
     (λ c. omega arith)
     (λ c. omega (arith, few c.before.before.before.before))
     (λ c. omega arith)
     (λ c.
-    let d = c.before.before.before.before.before in
-    let p = d.requires in
-    let m = no_room _ p.0.0 _ p.1.0 p.0.1.0 p.1.1.0.count p.1.1.0.most (listed d c.if-moves-gt-MOVES.false) (omega (arith, c.if-out-size.true)) in
-    (m.0, (m.1, d.list_moves-moves.ensures.kept)))
+    let p = c.requires in
+    let m = no_room _ p.0.0 _ p.1.0 p.0.1.0 p.1.1.0.count p.1.1.0.most (listed c.before.before.before.before.before c.if-moves-gt-MOVES.false) (omega (arith, c.if-out-size.true)) in
+    (m.0, (m.1, c.list_moves-moves.ensures.kept)))
     (λ c κs.
-    let d = c.before.before.before.before.before.before.before in
-    let p = d.requires in
-    ((p.0.0, p.0.1.0), (p.1.0, ((p.1.1.0.count ∙ sym (trimmed_marks _), p.1.1.0.most), (listed d c.if-moves-gt-MOVES.false, omega (arith, c.if-out-size.false))))))
+    let p = c.requires in
+    ((p.0.0, p.0.1.0), (p.1.0, ((p.1.1.0.count ∙ sym (trimmed_marks _), p.1.1.0.most), (listed c.before.before.before.before.before.before c.if-moves-gt-MOVES.false, omega (arith, c.if-out-size.false))))))
     (λ c. omega arith)
     (λ c. omega arith)
     (λ c.
-    let e = c.before.before.before.before.before in
-    let d = e.before.before.before.before.before in
-    let p = d.requires in
-    let m = all_written _ p.0.0 _ p.1.0 p.0.1.0 p.1.1.0.count p.1.1.0.most (listed d e.if-moves-gt-MOVES.false) e.if-out-size.false c.write_table.ensures in
-    (m.0, (m.1, d.list_moves-moves.ensures.kept))))
+    let p = c.requires in
+    let m = all_written _ p.0.0 _ p.1.0 p.0.1.0 p.1.1.0.count p.1.1.0.most (listed c.before.before.before.before.before.before.before.before.before c.if-moves-gt-MOVES.false) c.if-out-size.false c.write_table.ensures in
+    (m.0, (m.1, c.list_moves-moves.ensures.kept))))

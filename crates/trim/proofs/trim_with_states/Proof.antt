@@ -17,20 +17,16 @@ trim_with_states_spec =
     let m = many_marks _ _ h (omega (arith, c.if-ways-gt-MARKS.true)) in
     (m.0, (m.1, kept_more (omega arith) h.kept)))
     (λ c κs.
-    let d = c.before.before.before.before.before in
-    (c.if-ways-gt-MARKS.false, omega (arith, d.list_marks-ways.ensures.0.kept.long, d.requires.0.1.1)))
+    (c.if-ways-gt-MARKS.false, omega (arith, c.list_marks-ways.ensures.0.kept.long, c.requires.0.1.1)))
     (λ c κs.
-    let e = c.before.before.before.before in
-    let d = e.before.before.before.before in
-    let p = d.requires in
-    let h = d.list_marks-ways.ensures in (
+    let p = c.requires in
+    let h = c.list_marks-ways.ensures in (
       (p.0.0.good, (p.0.1.0, omega (arith, appended_long h.0, p.0.1.1))),
-      (p.1.1, (column_trios _ h.0 e.if-ways-gt-MARKS.false c.read_back-marks.ensures, h.1 e.if-ways-gt-MARKS.false)),
+      (p.1.1, (column_trios _ h.0 c.if-ways-gt-MARKS.false c.read_back-marks.ensures, h.1 c.if-ways-gt-MARKS.false)),
     ))
     (λ c. omega arith)
     (λ c. omega arith)
     (λ c.
-    let f = c.before.before.before.before in
-    let h = f.list_marks-ways.ensures.0 in
-    let r = f.trim_with_marks.ensures in
+    let h = c.list_marks-ways.ensures.0 in
+    let r = c.trim_with_marks.ensures in
     (r.0, (r.1.0, kept_then (kept_more (omega arith) h.kept) r.1.1))))

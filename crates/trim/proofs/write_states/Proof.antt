@@ -1,5 +1,5 @@
 use native.Mathlib.Omega.{arith}
-use Prim.Native.Nat.{◌<◌, ◌-◌}
+use Prim.Native.Nat.{◌-◌}
 use lib.ListN.{length}
 use mathlib.Core.Path.{◌∙◌}
 use Rattle.vpa.specs.TrimComputed.{trim_table}
@@ -15,9 +15,6 @@ invariant-loop-i table place out₀ begins ends here i₀ i-end out i = LaidSoFa
 abbrev decreases-loop-i : tie.decreases-loop-i
 decreases-loop-i table place out₀ begins ends here i₀ i-end out i = length (trim_table (parse table)).state_bytes - i
 
-low : (c : tie.In-loop-i invariant-loop-i decreases-loop-i) → c.loop-i.i < 64
-low c = omega (arith, c.loop-i-test.true, c.requires.0.most)
-
 pub write_states_spec : {M : Type 1} → statement M
 write_states_spec =
     tie.close
@@ -25,17 +22,17 @@ write_states_spec =
     invariant-loop-i
     decreases-loop-i
     (λ c. so_far_none _ _ _)
-    (λ c. bytes_fit (low c))
-    low
-    (λ c. bytes_fit (low c))
-    low
-    (λ c. bytes_fit (low c))
-    low
+    (λ c. bytes_fit (omega (arith, c.loop-i-test.true, c.requires.0.most)))
+    (λ c. omega (arith, c.loop-i-test.true, c.requires.0.most))
+    (λ c. bytes_fit (omega (arith, c.loop-i-test.true, c.requires.0.most)))
+    (λ c. omega (arith, c.loop-i-test.true, c.requires.0.most))
+    (λ c. bytes_fit (omega (arith, c.loop-i-test.true, c.requires.0.most)))
+    (λ c. omega (arith, c.loop-i-test.true, c.requires.0.most))
     (λ c κs. tt)
     (λ c. omega arith)
     (λ c. omega arith)
     (λ c. omega arith)
     (λ c. omega (arith, bytes_count _ c.requires.0))
-    (λ c. let d = c.before.before.before.before.before.before.before.before in so_far_more (byte_of _ d.requires.0 (omega arith) ∙ c.state_byte.ensures) (omega (arith, bytes_count _ d.requires.0)) (omega arith) c.loop-i.invariant)
+    (λ c. so_far_more (byte_of _ c.requires.0 (omega arith) ∙ c.state_byte.ensures) (omega (arith, bytes_count _ c.requires.0)) (omega arith) c.loop-i.invariant)
     (λ c. c.loop-i.invariant.is.long)
     (λ c. so_far_all (omega (arith, bytes_count _ c.requires.0)) c.loop-i.invariant))

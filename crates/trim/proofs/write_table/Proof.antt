@@ -10,7 +10,7 @@ use Rattle.trim.proofs.write_table.Statement.{statement}
 use Rattle.trim.proofs.write_table.Tie as tie
 
 -- The output is as long as it was, and the marks are few enough.
-long : (c : tie.After-lay-2) → length c.lay-2.new.1.1.0 ≡ length c.args.out.now
+long : (c : tie.After-lay-2) → length c.lay-2.new.out ≡ length c.args.out.now
 long c = c.lay-2.ensures.long ∙ c.lay.ensures.long
 
 few : (c : tie.After-lay-2) → (trim_table (parse c.args.table.now)).mark_count ≤ 64
@@ -31,21 +31,15 @@ write_table_spec =
     (λ c. let p = c.requires in omega (arith, p.0.1, good_size _ p.0.0, good_letters _ p.0.0))
     (λ c κs. omega arith)
     (λ c κs.
-    let d = c.before.before.before in
-    let p = d.requires in
-    (p.1.0, omega (arith, long d, p.1.1.1.1)))
+    let p = c.requires in
+    (p.1.0, omega (arith, long c.before.before.before, p.1.1.1.1)))
     (λ c. omega arith)
     (λ c κs.
-    let w = c.before.before.before in
-    let d = w.before.before.before.before in
-    let p = d.requires in
+    let p = c.requires in
     let l = p.1.1.1.0 in
-    (omega (arith, l.most, l.long), (omega (arith, w.write_states.ensures.long, long d, p.1.1.1.1), listed_low _ p.0.0 p.1.0 (few d) l)))
+    (omega (arith, l.most, l.long), (omega (arith, c.write_states.ensures.long, long c.before.before.before.before.before.before.before, p.1.1.1.1), listed_low _ p.0.0 p.1.0 (few c.before.before.before.before.before.before.before) l)))
     (λ c. omega arith)
     (λ c.
-    let w = c.before.before.before.before.before.before in
-    let d = w.before.before.before.before in
-    let e = d.before.before.before.before.before in
-    let p = e.requires in
-    table_laid _ p.0.0 p.1.0 (few d) p.1.1.1.0 p.0.1 p.1.1.0.0 e.head.ensures e.lay.ensures d.lay-2.ensures
-    w.write_states.ensures c.write_moves.ensures))
+    let p = c.requires in
+    table_laid _ p.0.0 p.1.0 (few c.before.before.before.before.before.before.before.before.before.before) p.1.1.1.0 p.0.1 p.1.1.0.0 c.head.ensures c.lay.ensures c.lay-2.ensures
+    c.write_states.ensures c.write_moves.ensures))

@@ -11,7 +11,6 @@ levels_of_spec =
     (λ c κs. let p = c.requires in (p.0, p.1.0))
     (λ c κs. c.requires.1.1)
     (λ c.
-    let d = c.before.before.before.before in
-    let begun = d.numbers_at-begun.ensures in
-    let ending = d.numbers_at-ending.ensures in
+    let begun = c.numbers_at-begun.ensures in
+    let ending = c.numbers_at-ending.ensures in
     (same_values begun ending c.on_levels.ensures, same_values begun ending c.on_levels-2.ensures)))

@@ -28,7 +28,6 @@ list_states_spec =
     (λ c. omega arith)
     (λ c. omega arith)
     (λ c.
-    let d = c.before.before.before.before.before.before in
-    (states_more _ d.transposed-back.ensures _ d.loop-o.invariant.0 c.list_states_from-count.ensures, omega arith))
+    (states_more _ c.transposed-back.ensures _ c.loop-o.invariant.0 c.list_states_from-count.ensures, omega arith))
     (λ c. appended_long c.loop-o.invariant.0.appended)
     (λ c. states_all _ _ (omega arith) c.loop-o.invariant.0))

@@ -28,10 +28,10 @@ list_states_from_spec =
     (λ c. walk_none _ c.ranges.live.fits (omega arith))
     (λ c. omega (arith, low c))
     (λ c. bytes_fit (low c.before))
-    (λ c. low c.before)
+    (λ c. low c.before.before)
     (λ c κs.
     let h = c.loop-rest.invariant.appended in
-    ((omega arith, (appended_low h, omega (arith, appended_long h))), (omega arith, (omega arith, omega (arith, low c.before.before)))))
+    ((omega arith, (appended_low h, omega (arith, appended_long h))), (omega arith, (omega arith, omega (arith, low c.before.before.before)))))
     (λ c. omega arith)
     (λ c. let rest = c.loop-rest.rest in omega (arith, and_le_r rest (rest - 1)))
     (λ c. walk_more (omega arith) c.loop-rest.invariant c.append-total.ensures)

@@ -1,6 +1,5 @@
 use native.Mathlib.Omega.{arith}
-use Prim.Native.Nat.{◌<◌, ◌≤◌, ◌-◌}
-use lib.ListN.{get_or}
+use Prim.Native.Nat.{◌≤◌, ◌-◌}
 use Rattle.triples.proofs.Laying.{bytes_fit}
 use Rattle.triples.proofs.Numbers.{NumbersSoFar, numbers_none, numbers_take, numbers_all}
 use Rattle.triples.proofs.numbers_at.Statement.{statement}
@@ -12,12 +11,6 @@ invariant-loop-j n values r₀ j₀ r j = NumbersSoFar (λ j. Unit {0}) values j
 abbrev decreases-loop-j : tie.decreases-loop-j
 decreases-loop-j n values r₀ j₀ r j = n - j
 
-low : (c : tie.In-loop-j invariant-loop-j decreases-loop-j) → c.loop-j.j < 64
-low c = omega (arith, c.loop-j-test.true)
-
-value : (c : tie.In-loop-j invariant-loop-j decreases-loop-j) → get_or c.args.values c.loop-j.j 0 < 64
-value c = c.requires.at _ c.loop-j-test.true
-
 pub numbers_at_spec : {M : Type 1} → statement M
 numbers_at_spec =
     tie.close
@@ -25,14 +18,14 @@ numbers_at_spec =
     invariant-loop-j
     decreases-loop-j
     (λ c. (numbers_none _ _, omega arith))
-    (λ c. bytes_fit (low c))
-    low
-    (λ c. bytes_fit (value c))
-    value
-    low
-    (λ c. bytes_fit (value c))
-    value
+    (λ c. bytes_fit (omega (arith, c.loop-j-test.true)))
+    (λ c. omega (arith, c.loop-j-test.true))
+    (λ c. bytes_fit (c.requires.at _ c.loop-j-test.true))
+    (λ c. c.requires.at _ c.loop-j-test.true)
+    (λ c. omega (arith, c.loop-j-test.true))
+    (λ c. bytes_fit (c.requires.at _ c.loop-j-test.true))
+    (λ c. c.requires.at _ c.loop-j-test.true)
     (λ c. omega arith)
     (λ c. omega arith)
-    (λ c. (numbers_take c.loop-j.invariant.0 tt (value c) (low c), omega arith))
+    (λ c. (numbers_take c.loop-j.invariant.0 tt (c.requires.at _ c.loop-j-test.true) (omega (arith, c.loop-j-test.true)), omega arith))
     (λ c. numbers_all (omega arith) (omega arith) c.loop-j.invariant.0))

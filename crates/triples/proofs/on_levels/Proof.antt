@@ -1,6 +1,5 @@
 use native.Mathlib.Omega.{arith}
-use Prim.Native.Nat.{◌<◌, ◌≤◌, ◌-◌}
-use lib.ListN.{get_or}
+use Prim.Native.Nat.{◌≤◌, ◌-◌}
 use Rattle.relation.proofs.Owned.{owned}
 use Rattle.relation.proofs.Relations.{Built, built_none}
 use Rattle.triples.specs.Steps.{OnLevel}
@@ -15,15 +14,6 @@ invariant-loop-i n begun ending first second r₀ i₀ r i = Built (OnLevel begu
 abbrev decreases-loop-i : tie.decreases-loop-i
 decreases-loop-i n begun ending first second r₀ i₀ r i = n - i
 
-low : (c : tie.In-loop-i invariant-loop-i decreases-loop-i) → c.loop-i.i < 64
-low c = omega (arith, c.loop-i-test.true)
-
-first : (c : tie.In-loop-i invariant-loop-i decreases-loop-i) → get_or c.args.first c.loop-i.i 0 < 64
-first c = c.requires.0.at _ c.loop-i-test.true
-
-second : (c : tie.In-loop-i invariant-loop-i decreases-loop-i) → get_or c.args.second c.loop-i.i 0 < 64
-second c = c.requires.1.at _ c.loop-i-test.true
-
 pub on_levels_spec : {M : Type 1} → statement M
 on_levels_spec =
     tie.close
@@ -31,17 +21,17 @@ on_levels_spec =
     invariant-loop-i
     decreases-loop-i
     (λ c. (built_none _, omega arith))
-    (λ c. bytes_fit (low c))
-    low
-    (λ c. bytes_fit (first c))
-    first
-    (λ c. bytes_fit (low c))
-    low
-    (λ c. bytes_fit (second c))
-    second
-    (λ c. bytes_fit (low c))
-    low
+    (λ c. bytes_fit (omega (arith, c.loop-i-test.true)))
+    (λ c. omega (arith, c.loop-i-test.true))
+    (λ c. bytes_fit (c.requires.0.at _ c.loop-i-test.true))
+    (λ c. c.requires.0.at _ c.loop-i-test.true)
+    (λ c. bytes_fit (omega (arith, c.loop-i-test.true)))
+    (λ c. omega (arith, c.loop-i-test.true))
+    (λ c. bytes_fit (c.requires.1.at _ c.loop-i-test.true))
+    (λ c. c.requires.1.at _ c.loop-i-test.true)
+    (λ c. bytes_fit (omega (arith, c.loop-i-test.true)))
+    (λ c. omega (arith, c.loop-i-test.true))
     (λ c. omega arith)
     (λ c. omega arith)
-    (λ c. (levels_more (owned _ _ c.well_formed.0) c.loop-i-test.true (low c) c.loop-i.invariant.0, omega arith))
+    (λ c. (levels_more (owned _ _ c.well_formed.0) c.loop-i-test.true (omega (arith, c.loop-i-test.true)) c.loop-i.invariant.0, omega arith))
     (λ c. levels_all (omega arith) c.loop-i.invariant.0))

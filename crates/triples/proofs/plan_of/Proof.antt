@@ -15,7 +15,6 @@ plan_of_spec =
     (λ c κs. tt)
     (λ c κs. tt)
     (λ c.
-    let d = c.before.before.before.before in
-    let levels = d.levels_of-levels.ensures in
-    plans levels.0 levels.1 d.turning-ends.ensures d.join-left.ensures d.turning-starts.ensures c.numbers_at.ensures
+    let levels = c.levels_of-levels.ensures in
+    plans levels.0 levels.1 c.turning-ends.ensures c.join-left.ensures c.turning-starts.ensures c.numbers_at.ensures
     c.transposed.ensures c.transposed-2.ensures c.join.ensures))

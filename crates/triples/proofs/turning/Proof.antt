@@ -1,6 +1,6 @@
 use native.Mathlib.Omega.{arith}
 use mathlib.Core.Path.{◌≡◌}
-use Prim.Native.Nat.{◌<◌, ◌≤◌, ◌-◌}
+use Prim.Native.Nat.{◌≤◌, ◌-◌}
 use lib.ListN.{get_or}
 use Rattle.triples.proofs.Laying.{bytes_fit}
 use Rattle.triples.proofs.Numbers.{NumbersSoFar, numbers_none, numbers_skip, numbers_take, turning_all}
@@ -13,12 +13,6 @@ invariant-loop-j n near far third r₀ j₀ r j = NumbersSoFar (λ j. get_or thi
 abbrev decreases-loop-j : tie.decreases-loop-j
 decreases-loop-j n near far third r₀ j₀ r j = n - j
 
-low : (c : tie.In-loop-j invariant-loop-j decreases-loop-j) → c.loop-j.j < 64
-low c = omega (arith, c.loop-j-test.true)
-
-value : (c : tie.In-loop-j invariant-loop-j decreases-loop-j) → get_or c.args.far c.loop-j.j 0 < 64
-value c = c.requires.at _ c.loop-j-test.true
-
 pub turning_spec : {M : Type 1} → statement M
 turning_spec =
     tie.close
@@ -27,19 +21,19 @@ turning_spec =
     decreases-loop-j
     (λ c. (numbers_none _ _, omega arith))
     (λ c. omega arith)
-    (λ c. bytes_fit (low c))
-    low
-    (λ c. bytes_fit (low c))
-    low
-    (λ c. bytes_fit (low c.before))
-    (λ c. low c.before)
-    (λ c. bytes_fit (value c.before))
-    (λ c. value c.before)
-    (λ c. low c.before)
-    (λ c. bytes_fit (value c.before))
-    (λ c. value c.before)
+    (λ c. bytes_fit (omega (arith, c.loop-j-test.true)))
+    (λ c. omega (arith, c.loop-j-test.true))
+    (λ c. bytes_fit (omega (arith, c.loop-j-test.true)))
+    (λ c. omega (arith, c.loop-j-test.true))
+    (λ c. bytes_fit (omega (arith, c.loop-j-test.true)))
+    (λ c. omega (arith, c.loop-j-test.true))
+    (λ c. bytes_fit (c.requires.at _ c.loop-j-test.true))
+    (λ c. c.requires.at _ c.loop-j-test.true)
+    (λ c. omega (arith, c.loop-j-test.true))
+    (λ c. bytes_fit (c.requires.at _ c.loop-j-test.true))
+    (λ c. c.requires.at _ c.loop-j-test.true)
     (λ c. omega arith)
-    (λ c. (numbers_take c.loop-j.invariant.0 c.if-third-i.true (value c.before) (low c.before), omega arith))
+    (λ c. (numbers_take c.loop-j.invariant.0 c.if-third-i.true (c.requires.at _ c.loop-j-test.true) (omega (arith, c.loop-j-test.true)), omega arith))
     (λ c. omega arith)
     (λ c. (numbers_skip c.loop-j.invariant.0 c.if-third-i.false, omega arith))
     (λ c. turning_all (omega arith) (omega arith) c.loop-j.invariant.0))
