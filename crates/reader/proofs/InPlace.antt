@@ -66,6 +66,7 @@ unfolding blocks_in all?
 blocks_back t words zero small long low n (fit_last {b} f) h =
     let one = block_back t small f words long low (λ j l. h 0 j (omega arith) l ∙ word_top b [] 0 j refl) in
     (rw one.0 refl, one.1)
+blocks_back t words zero small long low n (fit_more {bs = []} f fs) h = elim fs [ ]
 blocks_back t words zero small long low n (fit_more {bs = c ∷ cs} f fs) h = absurd (omega arith)
 blocks_back t words (suc e) small long low n (fit_last f) h = absurd (omega arith)
 blocks_back t words (suc e) small long low n (fit_more {b} {bs} f fs) h =

@@ -27,7 +27,7 @@ kept : (c : tie.At-loop-due invariant-loop-due decreases-loop-due) → KeptFrom 
 kept c = kept_then c.start.ensures.1 c.loop-due.invariant.1
 
 -- The row that is due.
-found : (c : tie.Else-p-states invariant-loop-due decreases-loop-due) → c.soonest_row-p.result < (c).args.states
+found : (c : tie.Else-p-states invariant-loop-due decreases-loop-due) → c.soonest_row-p.result < c.args.states
 found c = let other = c.if-p-states.false in omega (arith, c.soonest_row-p.ensures.low)
 
 low : (c : tie.Else-p-states invariant-loop-due decreases-loop-due) → c.soonest_row-p.result < 64

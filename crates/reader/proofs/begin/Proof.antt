@@ -9,7 +9,7 @@ use Rattle.reader.proofs.begin.Statement.{statement}
 use Rattle.reader.proofs.begin.Tie as tie
 
 -- What the counts that were given say of the table.
-counted : (c : tie.In-Good-2) → Counted c.args.table.now c.in-Good.counts
+counted : (c : tie.In-Good) → Counted c.args.table.now c.in-Good.counts
 counted c = when_good _ _ (sym (ap checked_as c.in-Good.is) ∙ c.check.ensures)
 
 pub begin_spec : {M : Type 1} → statement M
@@ -19,12 +19,12 @@ begin_spec =
     (λ c κs. tt)
     (λ c. search rules)
     (λ c. search rules)
-    (λ c. meets_short _ _ (counted c.before.before).good _ (rw state_size_lem c.if-state-lt-STATE.true))
-    (λ c κs. let w = counted c.before.before.before in (w.good, (w.states, rw state_size_lem c.if-state-lt-STATE.false)))
+    (λ c. meets_short _ _ (counted c.before).good _ (rw state_size_lem c.if-state-lt-STATE.true))
+    (λ c κs. let w = counted c.before.before in (w.good, (w.states, rw state_size_lem c.if-state-lt-STATE.false)))
     (λ c κs. tt)
     (λ c.
     let w = when_refused _ _ (sym (ap checked_as c.in-Refused.is) ∙ c.check.ensures) in
     meets_no_table _ _ _ w.0 w.1)
     (λ c. omega arith)
     (λ c.
-    meets_begun _ _ (counted c.before.before).good (rw state_size_lem c.if-state-lt-STATE.false) c.start-head.ensures.0 c.heard.ensures c.start-head.ensures.1))
+    meets_begun _ _ (counted c.before.before.before.before.before.before).good (rw state_size_lem c.if-state-lt-STATE.false) c.start-head.ensures.0 c.heard.ensures c.start-head.ensures.1))

@@ -28,20 +28,20 @@ room c =
     let r = c.requires.1.0 in
     omega (arith, block_place_lem c.args.head.depth, c.place-top.ensures.0, r.low, r.long, deepest_is, state_size_lem)
 
-closed : (c : tie.After-joined-pairs) → let s = (c).args in
-    HoldsExactly c.joined-pairs.result (ClosedRows (parse s.table.now) s.state-1.now s.head.depth s.letter)
+closed : (c : tie.After-joined-pairs) → let s = c.args in
+    HoldsExactly c.joined-pairs.result (ClosedRows (parse s.table.now) s.state.now s.head.depth s.letter)
 closed c =
     let s = c.args in
     let e = c.place-top.ensures.0 in
-    let w = s.state-1.now in
+    let w = s.state.now in
     let d = s.head.depth in
     closed_rows _ w (deep c.before.before.before) (lent_rows_after w (d - 1) c.place-below.ensures.0) (letter_at w d e) (lent_rows_after w d e) c.joined-pairs.ensures
 
-written : (c : tie.After-clear) → Closes (c).args.head.depth c.joined-pairs.result (c).args.state.now c.clear.new.0
+written : (c : tie.After-clear) → Closes c.args.head.depth c.joined-pairs.result c.args.state.now c.clear.new.state
 written c =
     let store = c.store in
     record {
-      middle = store.new.0;
+      middle = store.new.state;
       joins = written_at (omega (arith, c.place-below.ensures.0)) refl store.ensures;
       clears = written_at (sym c.place-top.ensures.0) (omega arith) c.clear.ensures;
     }

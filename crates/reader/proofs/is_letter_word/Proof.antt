@@ -15,4 +15,4 @@ is_letter_word_spec =
     (λ c. omega arith)
     (λ c. rw c.if-depth-eq0.true)
     (λ c. word_open _ _ _ c.if-depth-eq0.false (sym (ap kind_as c.in-Open.is) ∙ c.kind_at.ensures))
-    (λ c. word_other _ _ _ c.if-depth-eq0.false (λ e. not_open c.kind_at.result c.in_default.keys2 (c.kind_at.ensures ∙ e))))
+    (λ c. word_other _ _ _ c.if-depth-eq0.false (λ e. not_open c.kind_at.result c.in_default.in_default-own.keys2 (c.kind_at.ensures ∙ e))))

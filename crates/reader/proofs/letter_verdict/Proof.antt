@@ -34,5 +34,5 @@ letter_verdict_spec =
     let a = c.args in
     let known : a.letter < letter_count (parse a.table.now) = omega arith in
     verdict_none _ _ _ known (omega (arith, longest_log_lem))
-    (λ k. absurd (not_open c.kind_at.result c.in_default.keys2 (c.kind_at.ensures ∙ kind_there _ _ known ∙ ap some k))))
+    (λ k. absurd (not_open c.kind_at.result c.in_default.in_default-own.keys2 (c.kind_at.ensures ∙ kind_there _ _ known ∙ ap some k))))
     (λ c words. verdict_none _ _ _ (omega arith) (omega (arith, longest_log_lem)) (λ k. omega (arith, deepest_is, head_depth c.args.head words))))

@@ -14,7 +14,7 @@ use Rattle.reader.proofs.open.Statement.{statement}
 use Rattle.reader.proofs.open.Tie as tie
 
 halves : (c : tie.After-together-halves) → let s = c.args in
-    DigitsExactly c.together-halves.result (InSome (rows_in s.state-1.now s.head.depth) 0 s.states)
+    DigitsExactly c.together-halves.result (InSome (rows_in s.state.now s.head.depth) 0 s.states)
 halves c = rw (lent_rows c.args.state.now c.args.head.depth c.place-top.ensures.0) at c.together-halves.ensures
 
 reached : (c : tie.After-joined_row-reached) → let s = c.args in
@@ -26,7 +26,7 @@ room c =
     omega (arith, state_size_lem, deepest_is, block_place_lem (c.args.head.depth + 1), c.place-next.ensures.0, c.requires.0.1.1.0, c.requires.1.0)
 
 written : (c : tie.After-store) → let s = c.args in
-    Opens s.letter s.head.depth c.diagonal.result s.state-1.now c.store.new.0
+    Opens s.letter s.head.depth c.diagonal.result s.state.now c.store.new.state
 written c =
     let d = c.args.head.depth in
     written_at (omega (arith, c.place-next.ensures.0, block_place_lem (d + 1), block_place_lem (suc d))) refl

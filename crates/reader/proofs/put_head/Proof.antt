@@ -14,4 +14,4 @@ put_head_spec =
     (λ c. simp length-set (omega (arith, state_size_lem)))
     (λ c. simp length-set (omega (arith, state_size_lem)))
     (λ c. simp length-set)
-    (λ c. head_written _ _ (omega (arith, state_size_lem)) (⊎_elim (λ w. rw (w.0.taken, w.1)) (λ w. rw (w.0.left, w.1)) c.if-head.branch)))
+    (λ c. head_written _ _ (omega (arith, state_size_lem)) (⊎_elim (λ w. rw (w.if-head.true, w.state-is)) (λ w. rw (w.if-head.false, w.state-is)) c.if-head.branch-raw)))

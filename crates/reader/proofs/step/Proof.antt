@@ -44,29 +44,29 @@ step_spec =
     (λ c κs. tt)
     (λ c. omega arith)
     (λ c κs.
-    let r = c.pre.1.1.0 in
-    ((omega (arith, small c.before.before.before.before.before.before, c.pre.0.1), (few c.before.before.before.before.before.before, (r.low, (taken c.before.before.before.before.before.before).more))), (r.long, (rows c.before.before.before.before.before.before, c.pre.1.0.0.long))))
+    let r = c.requires.1.1.0 in
+    ((omega (arith, small c.before.before.before.before.before.before, c.requires.0.1), (few c.before.before.before.before.before.before, (r.low, (taken c.before.before.before.before.before.before).more))), (r.long, (rows c.before.before.before.before.before.before, c.requires.1.0.0.long))))
     (λ c. omega arith)
     (λ c κs.
-    ((omega (arith, small c.before.before.before.before.before.before, c.pre.0.1), (few c.before.before.before.before.before.before, ((taken c.before.before.before.before.before.before).low (opens c.before), (taken c.before.before.before.before.before.before).more))), (c.pre.1.1.0.long, (rows c.before.before.before.before.before.before, c.pre.1.0.0.long))))
+    ((omega (arith, small c.before.before.before.before.before.before, c.requires.0.1), (few c.before.before.before.before.before.before, ((taken c.before.before.before.before.before.before).low (opens c.before), (taken c.before.before.before.before.before.before).more))), (c.requires.1.1.0.long, (rows c.before.before.before.before.before.before, c.requires.1.0.0.long))))
     (λ c. omega arith)
     (λ c κs.
-    ((c.pre.0.0, (c.pre.0.1, c.pre.1.0.1)), (c.pre.1.1.0, (closes c.before, (taken c.before.before.before.before.before.before).more))))
+    ((c.requires.0.0, (c.requires.0.1, c.requires.1.0.1)), (c.requires.1.1.0, (closes c.before, (taken c.before.before.before.before.before.before).more))))
     (λ c. omega arith)
     (λ c κs. tt)
     (λ c. omega arith)
     (λ c.
-    let p = c.pre in
+    let p = c.requires in
     plain_step _ (good_table _ p.0.0) (small c.before.before.before.before.before.before.before.before.before) _ _ p.1.1.0 p.1.1.1.0 p.1.0.0 (few c.before.before.before.before.before.before.before.before.before)
     (told c.before.before.before.before.before (sym (ap kind_as c.in-Plain.is))) c.plain.ensures)
     (λ c. omega arith)
     (λ c.
-    let p = c.pre in
+    let p = c.requires in
     open_step _ (good_table _ p.0.0) (small c.before.before.before.before.before.before.before.before.before) _ _ p.1.1.0 p.1.1.1.0 p.1.0.0 (few c.before.before.before.before.before.before.before.before.before) (taken c.before.before.before.before.before.before.before.before.before).own (opens c.before.before.before.before) ((taken c.before.before.before.before.before.before.before.before.before).low (opens c.before.before.before.before))
     c.«open».ensures)
     (λ c. omega arith)
     (λ c.
-    let p = c.pre in
+    let p = c.requires in
     close_step _ (good_table _ p.0.0) (small c.before.before.before.before.before.before.before.before.before) _ _ p.1.1.0 p.1.1.1.0 (closes c.before.before.before.before) c.close.ensures)
     (λ c.
     absurd (told_none _ (taken c.before.before.before.before.before.before).own (sym (ap kind_as c.in-NoLetter.is) ∙ c.kind_at.ensures))))
