@@ -14,11 +14,8 @@ use Rattle.whole_log.proofs.read_log.Statement.{statement}
 use Rattle.whole_log.proofs.read_log.Tie as tie
 
 -- Where the table was good: what its check told, and the words that were lent.
-module _ (c : tie.In-Good-2) where
-  abbrev entry : tie.Start
-  entry = c.before.before.before.before.before.before
-
-  counted : Counted entry.args.table.now c.in-Good.counts
+module _ (c : tie.In-Good) where
+  counted : Counted c.args.table.now c.in-Good.counts
   counted = when_good _ _ (sym (ap checked_as c.in-Good.is) ∙ c.check.ensures)
 
 pub read_log_spec : {M : Type 1} → statement M
@@ -29,15 +26,13 @@ read_log_spec =
     (λ c. search rules)
     (λ c. search rules)
     (λ c.
-    let d = c.before.before in
-    let a = (entry d).args in
-    meets_short _ a.state.now (counted d).well_formed _ (omega (arith, state_size_lem)))
+    let a = c.args in
+    meets_short _ a.state.now (counted c.before).good _ (omega (arith, state_size_lem)))
     (λ c.
-    let d = c.before.before.before in
-    let a = (entry d).args in
-    meets_long _ a.log.now a.state.now (counted d).well_formed (omega (arith, state_size_lem)) (omega (arith, longest_log_lem)))
+    let a = c.args in
+    meets_long _ a.log.now a.state.now (counted c.before.before).good (omega (arith, state_size_lem)) (omega (arith, longest_log_lem)))
     (λ c κs.
-    let w = counted c.before.before.before.before in
+    let w = counted c.before.before.before in
     ((w.good, (w.states, w.letters)), (omega (arith, state_size_lem), omega (arith, longest_log_lem))))
     (λ c κs. (omega arith, omega (arith, c.read_all-answer.ensures.1.long)))
     (λ c.
@@ -45,9 +40,7 @@ read_log_spec =
     meets_no_table _ _ _ w.0 w.1)
     (λ c. omega (arith, c.clear.ensures.long, c.read_all-answer.ensures.1.long))
     (λ c.
-    let r = c.before.before.before.before.before.before in
-    let d = r.before.before.before.before.before in
-    let a = (entry d).args in
+    let a = c.args in
     let long : state_size ≤ length a.state.now = omega (arith, state_size_lem) in
-    meets_read _ a.log.now a.state.now (counted d).well_formed long (omega (arith, longest_log_lem)) r.read_all-answer.ensures.0
-    (clears long r.read_all-answer.ensures.1 (sym state_size_lem) c.clear.ensures)))
+    meets_read _ a.log.now a.state.now (counted c.before.before.before.before.before.before.before.before.before.before).good long (omega (arith, longest_log_lem)) c.read_all-answer.ensures.0
+    (clears long c.read_all-answer.ensures.1 (sym state_size_lem) c.clear.ensures)))
