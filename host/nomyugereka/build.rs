@@ -12,7 +12,7 @@ fn main() {
     println!("cargo:rerun-if-changed={}", library.display());
     if !library.is_file() {
         eprintln!(
-            "The static library {} is missing.\n`rt staticlib capture` at the top of the repository makes it.",
+            "The static library {} is missing.\n`./library` at the top of the repository makes it.",
             library.display()
         );
         std::process::exit(1);

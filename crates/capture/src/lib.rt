@@ -1,6 +1,7 @@
-// The calls as a capture program links them; `include/nomyugereka.h` declares them. Each is a library's call: tables, logs and outputs are bytes, scratch and the
-// balance are numbers, a reader's state is lent as bytes and its words are copied out and back, and the answer is one number (specs/Numbers). None asks anything of
-// its caller but what every slice and reference has: memory that is there, is as long as said, and is lent to nobody else meanwhile.
+// The calls of a capture program, in C's form: `capture_c` exports each to C under its name, `include/nomyugereka.h` declares them. Each is a library's call: tables,
+// logs and outputs are bytes, scratch and the balance are numbers, a reader's state is lent as bytes and its words are copied out and back, and the answer is one
+// number (specs/Numbers). None asks anything of its caller but what every slice and reference has: memory that is there, is as long as said, and is lent to nobody
+// else meanwhile.
 #![tactic(auto)]
 
 ghost use Rattle.std.specs.Prelude.{◌≡◌};
@@ -19,8 +20,7 @@ mod answers;
 mod state;
 
 // Whether bytes are a table. The counts are not told: they stand in the bytes.
-#[unsafe(no_mangle)]
-pub extern "C" fn nomyugereka_check(table: &[u8]) -> u64
+pub fn nomyugereka_check(table: &[u8]) -> u64
     ensures { result ≡ check_number (check_answer table.now) }
 {
     match table::check(table) {
@@ -29,8 +29,7 @@ pub extern "C" fn nomyugereka_check(table: &[u8]) -> u64
     }
 }
 
-#[unsafe(no_mangle)]
-pub extern "C" fn nomyugereka_write(table: &[u8], out: &mut [u8]) -> u64
+pub fn nomyugereka_write(table: &[u8], out: &mut [u8]) -> u64
     ensures value { result ≡ written_number (write_answer table.now out.old) }
     ensures out_after { out.new ≡ write_out table.now out.old }
 {
@@ -40,8 +39,7 @@ pub extern "C" fn nomyugereka_write(table: &[u8], out: &mut [u8]) -> u64
     }
 }
 
-#[unsafe(no_mangle)]
-pub extern "C" fn nomyugereka_trim(table: &[u8], scratch: &mut [u16], out: &mut [u8]) -> u64
+pub fn nomyugereka_trim(table: &[u8], scratch: &mut [u16], out: &mut [u8]) -> u64
     ensures value { result ≡ written_number (trim_call table.now scratch.old out.old).answer }
     ensures scratch_after { scratch.new ≡ (trim_call table.now scratch.old out.old).scratch }
     ensures out_after { out.new ≡ (trim_call table.now scratch.old out.old).out }
@@ -53,8 +51,7 @@ pub extern "C" fn nomyugereka_trim(table: &[u8], scratch: &mut [u16], out: &mut 
 }
 
 // Which log is written is open where several are shortest; nothing else is: `exported_shortest_once` of proofs/CallLaws.
-#[unsafe(no_mangle)]
-pub extern "C" fn nomyugereka_shortest(table: &[u8], scratch: &mut [u16], out: &mut [u8]) -> u64
+pub fn nomyugereka_shortest(table: &[u8], scratch: &mut [u16], out: &mut [u8]) -> u64
     ensures { ExportedShortest table.now scratch.old out.old result scratch.new out.new }
 {
     match shortest::shortest(table, scratch, out) {
@@ -65,8 +62,7 @@ pub extern "C" fn nomyugereka_shortest(table: &[u8], scratch: &mut [u16], out: &
 }
 
 // Refused, it leaves the bytes, and past the words' own it leaves them always: `begin_keeps`, `begin_past` of proofs/CallLaws.
-#[unsafe(no_mangle)]
-pub extern "C" fn nomyugereka_begin(table: &[u8], state: &mut [u8]) -> u64
+pub fn nomyugereka_begin(table: &[u8], state: &mut [u8]) -> u64
     ensures value { result ≡ (exported_begin table.now state.old).number }
     ensures state_after { state.new ≡ (exported_begin table.now state.old).bytes }
 {
@@ -80,8 +76,7 @@ pub extern "C" fn nomyugereka_begin(table: &[u8], state: &mut [u8]) -> u64
 }
 
 // The same of a letter: `letter_keeps`, `letter_past`.
-#[unsafe(no_mangle)]
-pub extern "C" fn nomyugereka_letter(table: &[u8], state: &mut [u8], letter: u8) -> u64
+pub fn nomyugereka_letter(table: &[u8], state: &mut [u8], letter: u8) -> u64
     ensures value { result ≡ (exported_letter table.now state.old letter).number }
     ensures state_after { state.new ≡ (exported_letter table.now state.old letter).bytes }
 {
@@ -95,8 +90,7 @@ pub extern "C" fn nomyugereka_letter(table: &[u8], state: &mut [u8], letter: u8)
 }
 
 // The state is only read.
-#[unsafe(no_mangle)]
-pub extern "C" fn nomyugereka_finish(table: &[u8], state: &[u8]) -> u64
+pub fn nomyugereka_finish(table: &[u8], state: &[u8]) -> u64
     ensures { result ≡ (exported_finish table.now state.now).number }
 {
     if state.len() < state::BYTES {
@@ -107,8 +101,7 @@ pub extern "C" fn nomyugereka_finish(table: &[u8], state: &[u8]) -> u64
 }
 
 // Where the bytes are left and where they are cleared: `log_keeps`, `log_clears` of proofs/CallLaws.
-#[unsafe(no_mangle)]
-pub extern "C" fn nomyugereka_read_log(table: &[u8], log: &[u8], state: &mut [u8]) -> u64
+pub fn nomyugereka_read_log(table: &[u8], log: &[u8], state: &mut [u8]) -> u64
     ensures value { result ≡ (exported_log table.now log.now state.old).number }
     ensures state_after { state.new ≡ (exported_log table.now log.now state.old).bytes }
 {
@@ -122,13 +115,7 @@ pub extern "C" fn nomyugereka_read_log(table: &[u8], log: &[u8], state: &mut [u8
 }
 
 // Refused, it leaves both numbers.
-#[unsafe(no_mangle)]
-pub extern "C" fn nomyugereka_balance(
-    table: &[u8],
-    log: &[u8],
-    balance: &mut i32,
-    lowest: &mut i32,
-) -> u64
+pub fn nomyugereka_balance(table: &[u8], log: &[u8], balance: &mut i32, lowest: &mut i32) -> u64
     ensures value { result ≡ weighed_number (balance_call table.now log.now) }
     ensures balance_after { balance.new ≡ balance_after (balance_call table.now log.now) balance.old }
     ensures lowest_after { lowest.new ≡ lowest_after (balance_call table.now log.now) lowest.old }

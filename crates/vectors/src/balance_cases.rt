@@ -2,76 +2,84 @@
 use crate::tables::{EMPTY, VERSION_PLACE, WORKED};
 use crate::{lines, tables};
 use balance::Weighed;
+use std::io;
 
-pub fn run() {
-    around_zero();
-    far_from_zero();
-    past_letters();
-    no_table();
+pub fn run(rt: &impl Print) -> io::Result<()> {
+    around_zero(rt)?;
+    far_from_zero(rt)?;
+    past_letters(rt)?;
+    no_table(rt)
 }
 
 // P10 of document 01, the empty log, and logs that stay near 0.
-fn around_zero() {
-    show(b"worked table, balance", &WORKED, &[2, 1]);
-    show(b"worked table, balance", &WORKED, &[]);
-    show(b"worked table, balance", &WORKED, &[0, 3]);
-    show(b"worked table, balance", &WORKED, &[1, 2]);
-    show(b"worked table, balance", &WORKED, &[1, 1, 2, 0]);
-    show(b"worked table, balance", &WORKED, &[1, 1, 2, 2, 2]);
-    show(b"worked table, balance", &WORKED, &[2, 2, 1]);
+fn around_zero(rt: &impl Print) -> io::Result<()> {
+    show(rt, b"worked table, balance", &WORKED, &[2, 1])?;
+    show(rt, b"worked table, balance", &WORKED, &[])?;
+    show(rt, b"worked table, balance", &WORKED, &[0, 3])?;
+    show(rt, b"worked table, balance", &WORKED, &[1, 2])?;
+    show(rt, b"worked table, balance", &WORKED, &[1, 1, 2, 0])?;
+    show(rt, b"worked table, balance", &WORKED, &[1, 1, 2, 2, 2])?;
+    show(rt, b"worked table, balance", &WORKED, &[2, 2, 1])?;
     show(
+        rt,
         b"worked table, balance",
         &WORKED,
         &[1, 2, 2, 2, 1, 3, 1, 1, 2, 2, 1, 1],
-    );
+    )
 }
 
-fn far_from_zero() {
-    lines::label(b"4096 opens, balance");
-    weigh(&WORKED, &[1; 4096]);
-    lines::label(b"4096 closes, balance");
-    weigh(&WORKED, &[2; 4096]);
+fn far_from_zero(rt: &impl Print) -> io::Result<()> {
+    lines::label(rt, b"4096 opens, balance")?;
+    weigh(rt, &WORKED, &[1; 4096])?;
+    lines::label(rt, b"4096 closes, balance")?;
+    weigh(rt, &WORKED, &[2; 4096])
 }
 
 // The last letter, and letters after it.
-fn past_letters() {
+fn past_letters(rt: &impl Print) -> io::Result<()> {
     let last = tables::last_of_each();
-    show(b"worked table, balance", &WORKED, &[4]);
-    show(b"worked table, balance", &WORKED, &[1, 4, 2]);
-    show(b"worked table, balance", &WORKED, &[2, 2, 255]);
+    show(rt, b"worked table, balance", &WORKED, &[4])?;
+    show(rt, b"worked table, balance", &WORKED, &[1, 4, 2])?;
+    show(rt, b"worked table, balance", &WORKED, &[2, 2, 255])?;
     show(
+        rt,
         b"last of each, balance",
         tables::whole(&last),
         &[30, 31, 31],
-    );
-    show(b"last of each, balance", tables::whole(&last), &[31, 32]);
-    show(b"no letters, balance", &EMPTY, &[]);
-    show(b"no letters, balance", &EMPTY, &[0]);
+    )?;
+    show(
+        rt,
+        b"last of each, balance",
+        tables::whole(&last),
+        &[31, 32],
+    )?;
+    show(rt, b"no letters, balance", &EMPTY, &[])?;
+    show(rt, b"no letters, balance", &EMPTY, &[0])
 }
 
 // The bytes come before the letters.
-fn no_table() {
+fn no_table(rt: &impl Print) -> io::Result<()> {
     let second = tables::worked_with(VERSION_PLACE, 2);
-    show(b"version 2, balance", &second, &[1, 2]);
-    show(b"version 2, balance", &second, &[4]);
+    show(rt, b"version 2, balance", &second, &[1, 2])?;
+    show(rt, b"version 2, balance", &second, &[4])
 }
 
-fn show(words: &[u8], table: &[u8], log: &[u8]) {
-    lines::log_label(words, log);
-    weigh(table, log);
+fn show(rt: &impl Print, words: &[u8], table: &[u8], log: &[u8]) -> io::Result<()> {
+    lines::log_label(rt, words, log)?;
+    weigh(rt, table, log)
 }
 
-fn weigh(table: &[u8], log: &[u8]) {
+fn weigh(rt: &impl Print, table: &[u8], log: &[u8]) -> io::Result<()> {
     match balance::balance(table, log) {
-        Weighed::Refused(number) => lines::refused(number),
-        Weighed::Tally(tally) => show_tally(tally.balance, tally.lowest),
+        Weighed::Refused(number) => lines::refused(rt, number)?,
+        Weighed::Tally(tally) => show_tally(rt, tally.balance, tally.lowest)?,
     }
-    lines::end();
+    lines::end(rt)
 }
 
-fn show_tally(balance: i32, lowest: i32) {
-    lines::text(b"balance");
-    lines::next_signed(balance);
-    lines::text(b", lowest");
-    lines::next_signed(lowest);
+fn show_tally(rt: &impl Print, balance: i32, lowest: i32) -> io::Result<()> {
+    lines::text(rt, b"balance")?;
+    lines::next_signed(rt, balance)?;
+    lines::text(rt, b", lowest")?;
+    lines::next_signed(rt, lowest)
 }

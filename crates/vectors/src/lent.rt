@@ -1,5 +1,6 @@
 // What is lent to a call, scratch, an output and a reader's words: what they hold before, and whether they hold afterwards what they must.
 use crate::lines;
+use std::io;
 
 // What scratch holds before it is lent.
 pub const UNTOUCHED: u16 = 7;
@@ -25,13 +26,13 @@ pub fn cleared_at(number: u8) -> usize {
 }
 
 // What became of scratch, as the end of a line.
-pub fn show_scratch(zeros: usize, scratch: &[u16]) {
+pub fn show_scratch(rt: &impl Print, zeros: usize, scratch: &[u16]) -> io::Result<()> {
     if !holds_zeros(scratch, zeros) {
-        lines::answer(b", other scratch");
+        lines::answer(rt, b", other scratch")
     } else if zeros == 0 {
-        lines::answer(b", scratch as it was");
+        lines::answer(rt, b", scratch as it was")
     } else {
-        lines::answer(b", 16384 numbers cleared");
+        lines::answer(rt, b", 16384 numbers cleared")
     }
 }
 
@@ -46,11 +47,11 @@ fn holds_zeros(scratch: &[u16], zeros: usize) -> bool {
 }
 
 // What became of an output past its first bytes.
-pub fn show_rest(out: &[u8], bytes: usize) {
+pub fn show_rest(rt: &impl Print, out: &[u8], bytes: usize) -> io::Result<()> {
     if holds(out, front(out, bytes)) {
-        lines::text(b", then as it was");
+        lines::text(rt, b", then as it was")
     } else {
-        lines::text(b", then other");
+        lines::text(rt, b", then other")
     }
 }
 

@@ -13,12 +13,14 @@ mod table_cases;
 mod tables;
 mod trim_cases;
 
-fn main() {
-    table_cases::run();
-    nesting_cases::run();
-    trim_cases::run();
-    shortest_cases::run();
-    reader_cases::run();
-    log_cases::run();
-    balance_cases::run();
+use std::io;
+
+fn main(rt: HostRuntime) -> io::Result<()> {
+    table_cases::run(&rt)?;
+    nesting_cases::run(&rt)?;
+    trim_cases::run(&rt)?;
+    shortest_cases::run(&rt)?;
+    reader_cases::run(&rt)?;
+    log_cases::run(&rt)?;
+    balance_cases::run(&rt)
 }

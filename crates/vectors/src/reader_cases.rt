@@ -8,6 +8,7 @@ use crate::tables::{
 };
 use crate::{lent, lines, nesting_cases, tables};
 use reader::Heard;
+use std::io;
 
 // Places of the words: letters taken, the depth, whether stopped; then the blocks, each a letter and 64 rows.
 const TAKEN: usize = 0;
@@ -40,278 +41,317 @@ const DIGIT_62: u64 = 4611686018427387904;
 
 const DIGIT_63: u64 = 9223372036854775808;
 
-pub fn run() {
-    examples(b"worked table, log", &WORKED);
-    examples(b"trimmed table, log", &TRIMMED);
-    stops();
-    ends();
-    marks();
-    nested();
-    broken_words();
-    broken_rows();
-    several_faults();
-    zeros();
-    most_letters();
-    carried();
-    halves();
-    last_states();
-    sizes();
-    old_words();
-    further_words();
+pub fn run(rt: &impl Print) -> io::Result<()> {
+    examples(rt, b"worked table, log", &WORKED)?;
+    examples(rt, b"trimmed table, log", &TRIMMED)?;
+    stops(rt)?;
+    ends(rt)?;
+    marks(rt)?;
+    nested(rt)?;
+    broken_words(rt)?;
+    broken_rows(rt)?;
+    several_faults(rt)?;
+    zeros(rt)?;
+    most_letters(rt)?;
+    carried(rt)?;
+    halves(rt)?;
+    last_states(rt)?;
+    sizes(rt)?;
+    old_words(rt)?;
+    further_words(rt)
 }
 
 // P4 to P9 of document 01.
-fn examples(words: &[u8], table: &[u8]) {
-    show_log(words, table, &[1, 2]);
-    show_log(words, table, &[1, 0, 2]);
-    show_log(words, table, &[1, 3]);
-    show_log(words, table, &[2]);
-    show_log(words, table, &[]);
+fn examples(rt: &impl Print, words: &[u8], table: &[u8]) -> io::Result<()> {
+    show_log(rt, words, table, &[1, 2])?;
+    show_log(rt, words, table, &[1, 0, 2])?;
+    show_log(rt, words, table, &[1, 3])?;
+    show_log(rt, words, table, &[2])?;
+    show_log(rt, words, table, &[])
 }
 
 // By a close letter, an open and a plain one. After a stop every letter gets it again; a letter that is refused is not taken.
-fn stops() {
-    show_log(b"worked table, log", &WORKED, &[1, 3, 2, 4, 1]);
-    show_log(b"worked table, log", &WORKED, &[1, 1, 2]);
-    show_log(b"worked table, log", &WORKED, &[0, 255]);
-    show_log(b"worked table, log", &WORKED, &[4, 1, 255, 2]);
+fn stops(rt: &impl Print) -> io::Result<()> {
+    show_log(rt, b"worked table, log", &WORKED, &[1, 3, 2, 4, 1])?;
+    show_log(rt, b"worked table, log", &WORKED, &[1, 1, 2])?;
+    show_log(rt, b"worked table, log", &WORKED, &[0, 255])?;
+    show_log(rt, b"worked table, log", &WORKED, &[4, 1, 255, 2])
 }
 
-fn ends() {
-    show_log(b"no states, log", &EMPTY, &[0, 255]);
+fn ends(rt: &impl Print) -> io::Result<()> {
+    show_log(rt, b"no states, log", &EMPTY, &[0, 255])?;
     show_log(
+        rt,
         b"no initial state, log",
         &tables::worked_with(INITIAL_PLACE, 0),
         &[1, 4],
-    );
-    show_log(b"one state at both ends, log", &ONE_STATE, &[]);
+    )?;
+    show_log(rt, b"one state at both ends, log", &ONE_STATE, &[])?;
     show_log(
+        rt,
         b"last of each, log",
         tables::whole(&tables::last_of_each()),
         &[30, 31, 32],
-    );
+    )
 }
 
 // A close asks for a mark that the open letter of its own block pushed.
-fn marks() {
+fn marks(rt: &impl Print) -> io::Result<()> {
     let first = tables::other_mark_first();
     show_log(
+        rt,
         b"another mark for each open letter, log",
         tables::whole(&first),
         &[0, 2],
-    );
+    )?;
     show_log(
+        rt,
         b"another mark for each open letter, log",
         tables::whole(&first),
         &[1, 2],
-    );
-    show_log(b"one state, log", &ONE_STATE, &[4, 0, 3, 1, 1]);
-    show_log(b"two initial states, log", &TWO_MARKS, &[0, 1]);
+    )?;
+    show_log(rt, b"one state, log", &ONE_STATE, &[4, 0, 3, 1, 1])?;
+    show_log(rt, b"two initial states, log", &TWO_MARKS, &[0, 1])?;
     show_log(
+        rt,
         b"levels away from their ends, log",
         &NESTED_TWICE,
         &[0, 1, 1, 2, 2, 0],
-    );
+    )
 }
 
-fn nested() {
-    lines::label(b"one state");
-    let begun = begin(&ONE_STATE, [0u64; STATE]);
-    lines::label(b"after 31 opens");
-    let deep = letter(&ONE_STATE, repeated(&ONE_STATE, begun, 0, 31), 0);
-    deepest(deep);
-    lines::label(b"after 31 closes");
-    let back = letter(&ONE_STATE, repeated(&ONE_STATE, deep, 1, 31), 1);
-    show_both(b"back at depth 0", &ONE_STATE, back, 1);
+fn nested(rt: &impl Print) -> io::Result<()> {
+    lines::label(rt, b"one state")?;
+    let begun = begin(rt, &ONE_STATE, [0u64; STATE])?;
+    lines::label(rt, b"after 31 opens")?;
+    let deep = letter(rt, &ONE_STATE, repeated(&ONE_STATE, begun, 0, 31), 0)?;
+    deepest(rt, deep)?;
+    lines::label(rt, b"after 31 closes")?;
+    let back = letter(rt, &ONE_STATE, repeated(&ONE_STATE, deep, 1, 31), 1)?;
+    show_both(rt, b"back at depth 0", &ONE_STATE, back, 1)
 }
 
 // At depth 32 an open letter is refused, also one that no move has. 11 and 12 come before that.
-fn deepest(state: [u64; STATE]) {
-    show_both(b"at depth 32", &ONE_STATE, state, 0);
-    show_both(b"at depth 32, with no move", &ONE_STATE, state, 2);
-    show_both(b"at depth 32, a plain letter", &ONE_STATE, state, 3);
-    show_both(b"at depth 32, past the letters", &ONE_STATE, state, 5);
+fn deepest(rt: &impl Print, state: [u64; STATE]) -> io::Result<()> {
+    show_both(rt, b"at depth 32", &ONE_STATE, state, 0)?;
+    show_both(rt, b"at depth 32, with no move", &ONE_STATE, state, 2)?;
+    show_both(rt, b"at depth 32, a plain letter", &ONE_STATE, state, 3)?;
+    show_both(rt, b"at depth 32, past the letters", &ONE_STATE, state, 5)?;
     let mut last = state;
     last[TAKEN] = MOST;
-    show_both(b"at depth 32 and 16777215 letters", &ONE_STATE, last, 0);
+    show_both(rt, b"at depth 32 and 16777215 letters", &ONE_STATE, last, 0)
 }
 
 // Of the leading words and of the letters of blocks. At depth 0 the block above is left over, and at depth 2 the letter 0 of its block is not open.
-fn broken_words() {
-    show_changed(b"16777216 letters", TAKEN, 16777216);
-    show_changed(b"2^64 - 1 letters", TAKEN, LARGEST_WORD);
-    show_changed(b"depth 33", DEPTH, 33);
-    show_changed(b"depth 2^64 - 1", DEPTH, LARGEST_WORD);
-    show_changed(b"depth 0", DEPTH, 0);
-    show_changed(b"depth 2", DEPTH, 2);
-    show_changed(b"stopped 2", STOPPED, 2);
-    show_changed(b"block 0 by 1", LEADING, 1);
-    show_changed(b"block 1 by a plain letter", LETTER_1, 0);
-    show_changed(b"block 1 by a close letter", LETTER_1, 2);
-    show_changed(b"block 1 by 4", LETTER_1, 4);
-    show_changed(b"block 1 by 257", LETTER_1, 257);
+fn broken_words(rt: &impl Print) -> io::Result<()> {
+    show_changed(rt, b"16777216 letters", TAKEN, 16777216)?;
+    show_changed(rt, b"2^64 - 1 letters", TAKEN, LARGEST_WORD)?;
+    show_changed(rt, b"depth 33", DEPTH, 33)?;
+    show_changed(rt, b"depth 2^64 - 1", DEPTH, LARGEST_WORD)?;
+    show_changed(rt, b"depth 0", DEPTH, 0)?;
+    show_changed(rt, b"depth 2", DEPTH, 2)?;
+    show_changed(rt, b"stopped 2", STOPPED, 2)?;
+    show_changed(rt, b"block 0 by 1", LEADING, 1)?;
+    show_changed(rt, b"block 1 by a plain letter", LETTER_1, 0)?;
+    show_changed(rt, b"block 1 by a close letter", LETTER_1, 2)?;
+    show_changed(rt, b"block 1 by 4", LETTER_1, 4)?;
+    show_changed(rt, b"block 1 by 257", LETTER_1, 257)
 }
 
 // Of pairs and of the words above the depth. Any pair of the table's states may be held.
-fn broken_rows() {
-    show_changed(b"all pairs of row 3", ROWS_0 + 3, 15);
-    show_changed(b"a pair (4,0)", ROWS_0 + 4, 1);
-    show_changed(b"a pair (63,0) in block 1", ROWS_1 + 63, 1);
-    show_changed(b"a pair (0,4)", ROWS_0, 17);
-    show_changed(b"a pair (1,63) in block 1", ROWS_1 + 1, DIGIT_63);
-    show_changed(b"block 2 by 1 above the depth", LETTER_2, 1);
-    show_changed(b"the last word not zero", LAST_WORD, 1);
+fn broken_rows(rt: &impl Print) -> io::Result<()> {
+    show_changed(rt, b"all pairs of row 3", ROWS_0 + 3, 15)?;
+    show_changed(rt, b"a pair (4,0)", ROWS_0 + 4, 1)?;
+    show_changed(rt, b"a pair (63,0) in block 1", ROWS_1 + 63, 1)?;
+    show_changed(rt, b"a pair (0,4)", ROWS_0, 17)?;
+    show_changed(rt, b"a pair (1,63) in block 1", ROWS_1 + 1, DIGIT_63)?;
+    show_changed(rt, b"block 2 by 1 above the depth", LETTER_2, 1)?;
+    show_changed(rt, b"the last word not zero", LAST_WORD, 1)
 }
 
 // 14 comes before a stop and before 11, and a stop before 11.
-fn several_faults() {
+fn several_faults(rt: &impl Print) -> io::Result<()> {
     let mut state = inside();
     state[STOPPED] = 1;
-    show_both(b"stopped", &WORKED, state, 4);
+    show_both(rt, b"stopped", &WORKED, state, 4)?;
     state[LAST_WORD] = 1;
-    show_both(b"stopped and the last word not zero", &WORKED, state, 4);
+    show_both(rt, b"stopped and the last word not zero", &WORKED, state, 4)?;
     state[STOPPED] = 0;
-    show_both(b"the last word not zero", &WORKED, state, 4);
+    show_both(rt, b"the last word not zero", &WORKED, state, 4)
 }
 
 // Zeros are a state that holds no pair.
-fn zeros() {
-    show_both(b"zeros", &WORKED, [0u64; STATE], 0);
-    show_both(b"zeros", &WORKED, [0u64; STATE], 4);
-    show_both(b"zeros and no states", &EMPTY, [0u64; STATE], 0);
+fn zeros(rt: &impl Print) -> io::Result<()> {
+    show_both(rt, b"zeros", &WORKED, [0u64; STATE], 0)?;
+    show_both(rt, b"zeros", &WORKED, [0u64; STATE], 4)?;
+    show_both(rt, b"zeros and no states", &EMPTY, [0u64; STATE], 0)
 }
 
 // 12 comes after a stop and after 11, and before the stop of a close at depth 0.
-fn most_letters() {
+fn most_letters(rt: &impl Print) -> io::Result<()> {
     let mut state = [0u64; STATE];
     state[ROWS_0] = 1;
     state[TAKEN] = MOST - 1;
-    show_both(b"16777214 letters", &WORKED, state, 1);
-    show_both(b"16777214 letters", &WORKED, state, 2);
+    show_both(rt, b"16777214 letters", &WORKED, state, 1)?;
+    show_both(rt, b"16777214 letters", &WORKED, state, 2)?;
     state[TAKEN] = MOST;
-    show_both(b"16777215 letters", &WORKED, state, 1);
-    show_both(b"16777215 letters", &WORKED, state, 2);
-    show_both(b"16777215 letters", &WORKED, state, 4);
+    show_both(rt, b"16777215 letters", &WORKED, state, 1)?;
+    show_both(rt, b"16777215 letters", &WORKED, state, 2)?;
+    show_both(rt, b"16777215 letters", &WORKED, state, 4)?;
     state[STOPPED] = 1;
-    show_both(b"16777215 letters, stopped", &WORKED, state, 4);
+    show_both(rt, b"16777215 letters, stopped", &WORKED, state, 4)
 }
 
 // Each call goes by its own table. The trimmed one has no state 3, and its state 2 is not final.
-fn carried() {
-    show_both(b"carried to the trimmed table", &TRIMMED, inside(), 2);
+fn carried(rt: &impl Print) -> io::Result<()> {
+    show_both(rt, b"carried to the trimmed table", &TRIMMED, inside(), 2)?;
     show_both(
+        rt,
         b"carried to where letter 1 closes",
         &tables::worked_with(KINDS_PLACE + 1, 2),
         inside(),
         2,
-    );
+    )?;
     let mut state = [0u64; STATE];
     state[ROWS_0] = 4;
-    show_both(b"a pair (0,2)", &WORKED, state, 2);
-    show_both(b"a pair (0,2) on the trimmed table", &TRIMMED, state, 2);
+    show_both(rt, b"a pair (0,2)", &WORKED, state, 2)?;
+    show_both(rt, b"a pair (0,2) on the trimmed table", &TRIMMED, state, 2)
 }
 
 // Accepted are pairs at depth 0 with an initial first half. A close keeps the first halves of the block below.
-fn halves() {
-    show_changed(b"a pair (0,2) below depth 1", ROWS_0, 5);
-    show_changed(b"a pair (0,2) at depth 1", ROWS_1, 4);
+fn halves(rt: &impl Print) -> io::Result<()> {
+    show_changed(rt, b"a pair (0,2) below depth 1", ROWS_0, 5)?;
+    show_changed(rt, b"a pair (0,2) at depth 1", ROWS_1, 4)?;
     let mut state = [0u64; STATE];
     state[ROWS_0 + 1] = 4;
-    show_both(b"a pair (1,2)", &WORKED, state, 2);
+    show_both(rt, b"a pair (1,2)", &WORKED, state, 2)?;
     let mut above = inside();
     above[ROWS_0] = 0;
     above[ROWS_0 + 3] = 1;
-    show_both(b"a pair (3,0) below", &WORKED, above, 2);
+    show_both(rt, b"a pair (3,0) below", &WORKED, above, 2)
 }
 
 // With 64 states a row may have every digit, and with 63 all but the last.
-fn last_states() {
+fn last_states(rt: &impl Print) -> io::Result<()> {
     let chain = tables::chain();
     let mut state = [0u64; STATE];
     state[ROWS_0 + 63] = DIGIT_63;
     show_both(
+        rt,
         b"64 states, a pair (63,63)",
         tables::whole(&chain),
         state,
         0,
-    );
+    )?;
     state[ROWS_0] = DIGIT_62;
     show_both(
+        rt,
         b"64 states, a pair (0,62) too",
         tables::whole(&chain),
         state,
         0,
-    );
+    )?;
     let fewer = tables::of_counts(63, 1, 0, 0);
     show_both(
+        rt,
         b"63 states, a pair (63,63)",
         tables::whole(&fewer),
         state,
         0,
-    );
+    )?;
     state[ROWS_0 + 63] = 0;
-    show_both(b"63 states, a pair (0,62)", tables::whole(&fewer), state, 0);
+    show_both(
+        rt,
+        b"63 states, a pair (0,62)",
+        tables::whole(&fewer),
+        state,
+        0,
+    )?;
     state[ROWS_0] = DIGIT_63;
-    show_both(b"63 states, a pair (0,63)", tables::whole(&fewer), state, 0);
+    show_both(
+        rt,
+        b"63 states, a pair (0,63)",
+        tables::whole(&fewer),
+        state,
+        0,
+    )
 }
 
-fn sizes() {
+fn sizes(rt: &impl Print) -> io::Result<()> {
     let second = tables::worked_with(VERSION_PLACE, 2);
-    show_refused(b"2147 words", &WORKED, &mut [OLD_WORD; 2147]);
-    show_refused(b"version 2 and 2147 words", &second, &mut [OLD_WORD; 2147]);
-    show_refused(b"version 2 and 2148 words", &second, &mut [OLD_WORD; 2148]);
+    show_refused(rt, b"2147 words", &WORKED, &mut [OLD_WORD; 2147])?;
+    show_refused(
+        rt,
+        b"version 2 and 2147 words",
+        &second,
+        &mut [OLD_WORD; 2147],
+    )?;
+    show_refused(
+        rt,
+        b"version 2 and 2148 words",
+        &second,
+        &mut [OLD_WORD; 2148],
+    )
 }
 
 // Begin does not ask what the words hold.
-fn old_words() {
-    lines::label(b"words that are no state");
-    begin(&WORKED, [OLD_WORD; STATE]);
-    lines::label(b"words that are no state, no states");
-    begin(&EMPTY, [OLD_WORD; STATE]);
+fn old_words(rt: &impl Print) -> io::Result<()> {
+    lines::label(rt, b"words that are no state")?;
+    begin(rt, &WORKED, [OLD_WORD; STATE])?;
+    lines::label(rt, b"words that are no state, no states")?;
+    begin(rt, &EMPTY, [OLD_WORD; STATE])?;
+    Ok(())
 }
 
 // Words past the state stay.
-fn further_words() {
+fn further_words(rt: &impl Print) -> io::Result<()> {
     let old = [OLD_WORD; 2150];
     let mut words = old;
-    lines::text(b"2150 words: begin ");
-    show_heard(reader::begin(&WORKED, &mut words));
-    show_words(&old, &words);
+    lines::text(rt, b"2150 words: begin ")?;
+    show_heard(rt, reader::begin(&WORKED, &mut words))?;
+    show_words(rt, &old, &words)?;
     let begun = words;
-    lines::text(b"2150 words: letter 1 ");
-    show_heard(reader::letter(&WORKED, &mut words, 1));
-    show_words(&begun, &words);
+    lines::text(rt, b"2150 words: letter 1 ")?;
+    show_heard(rt, reader::letter(&WORKED, &mut words, 1))?;
+    show_words(rt, &begun, &words)
 }
 
 // Begin, each letter, finish.
-fn show_log(words: &[u8], table: &[u8], log: &[u8]) {
-    lines::log_label(words, log);
-    let mut state = begin(table, [0u64; STATE]);
+fn show_log(rt: &impl Print, words: &[u8], table: &[u8], log: &[u8]) -> io::Result<()> {
+    lines::log_label(rt, words, log)?;
+    let mut state = begin(rt, table, [0u64; STATE])?;
     for i in 0..log.len() {
-        lines::log_label(words, log);
-        let next = letter(table, state, log[i]);
+        lines::log_label(rt, words, log)?;
+        let next = letter(rt, table, state, log[i])?;
         state = next;
     }
-    lines::log_label(words, log);
-    finish(table, state);
-    lines::end();
+    lines::log_label(rt, words, log)?;
+    finish(rt, table, state)?;
+    lines::end(rt)
 }
 
 // Finish and a letter on the same state.
-fn show_both(label: &[u8], table: &[u8], state: [u64; STATE], number: u8) {
-    lines::label(label);
-    finish(table, state);
-    lines::text(b", ");
-    letter(table, state, number);
+fn show_both(
+    rt: &impl Print,
+    label: &[u8],
+    table: &[u8],
+    state: [u64; STATE],
+    number: u8,
+) -> io::Result<()> {
+    lines::label(rt, label)?;
+    finish(rt, table, state)?;
+    lines::text(rt, b", ")?;
+    letter(rt, table, state, number)?;
+    Ok(())
 }
 
 // The same after letter 1 on the worked table, with another word at one place.
-fn show_changed(label: &[u8], place: usize, word: u64) {
+fn show_changed(rt: &impl Print, label: &[u8], place: usize, word: u64) -> io::Result<()> {
     let mut state = inside();
     if place < STATE {
         state[place] = word;
     }
-    show_both(label, &WORKED, state, 0);
+    show_both(rt, label, &WORKED, state, 0)
 }
 
 // The state after letter 1 on the worked table.
@@ -343,61 +383,66 @@ fn after(table: &[u8], state: [u64; STATE], number: u8) -> [u64; STATE] {
 }
 
 // Each call in words that it leaves as they were.
-fn show_refused(label: &[u8], table: &[u8], words: &mut [u64]) {
-    lines::label(label);
-    lines::text(b"begin ");
-    show_heard(reader::begin(table, words));
-    lines::text(b", letter 1 ");
-    show_heard(reader::letter(table, words, 1));
-    lines::text(b", finish ");
-    show_heard(reader::finish(table, words));
-    show_words(&[OLD_WORD; STATE], words);
+fn show_refused(rt: &impl Print, label: &[u8], table: &[u8], words: &mut [u64]) -> io::Result<()> {
+    lines::label(rt, label)?;
+    lines::text(rt, b"begin ")?;
+    show_heard(rt, reader::begin(table, words))?;
+    lines::text(rt, b", letter 1 ")?;
+    show_heard(rt, reader::letter(table, words, 1))?;
+    lines::text(rt, b", finish ")?;
+    show_heard(rt, reader::finish(table, words))?;
+    show_words(rt, &[OLD_WORD; STATE], words)
 }
 
-fn begin(table: &[u8], state: [u64; STATE]) -> [u64; STATE] {
+fn begin(rt: &impl Print, table: &[u8], state: [u64; STATE]) -> io::Result<[u64; STATE]> {
     let mut next = state;
-    lines::text(b"begin ");
-    show_heard(reader::begin(table, &mut next));
-    show_words(&state, &next);
-    next
+    lines::text(rt, b"begin ")?;
+    show_heard(rt, reader::begin(table, &mut next))?;
+    show_words(rt, &state, &next)?;
+    Ok(next)
 }
 
-fn letter(table: &[u8], state: [u64; STATE], number: u8) -> [u64; STATE] {
+fn letter(
+    rt: &impl Print,
+    table: &[u8],
+    state: [u64; STATE],
+    number: u8,
+) -> io::Result<[u64; STATE]> {
     let mut next = state;
-    lines::text(b"letter");
-    lines::next_number(number as usize);
-    lines::text(b" ");
-    show_heard(reader::letter(table, &mut next, number));
-    show_words(&state, &next);
-    next
+    lines::text(rt, b"letter")?;
+    lines::next_number(rt, number as usize)?;
+    lines::text(rt, b" ")?;
+    show_heard(rt, reader::letter(table, &mut next, number))?;
+    show_words(rt, &state, &next)?;
+    Ok(next)
 }
 
-fn finish(table: &[u8], state: [u64; STATE]) {
-    lines::text(b"finish ");
-    show_heard(reader::finish(table, &state));
+fn finish(rt: &impl Print, table: &[u8], state: [u64; STATE]) -> io::Result<()> {
+    lines::text(rt, b"finish ")?;
+    show_heard(rt, reader::finish(table, &state))
 }
 
-pub fn show_heard(answer: Heard) {
+pub fn show_heard(rt: &impl Print, answer: Heard) -> io::Result<()> {
     match answer {
-        Heard::Refused(number) => lines::refused(number),
-        Heard::Going => lines::text(b"going"),
-        Heard::Accepted => lines::text(b"accepted"),
-        Heard::Unfinished => lines::text(b"unfinished"),
+        Heard::Refused(number) => lines::refused(rt, number),
+        Heard::Going => lines::text(rt, b"going"),
+        Heard::Accepted => lines::text(rt, b"accepted"),
+        Heard::Unfinished => lines::text(rt, b"unfinished"),
         Heard::Stop(place) => {
-            lines::text(b"stop");
-            lines::next_number(place);
+            lines::text(rt, b"stop")?;
+            lines::next_number(rt, place)
         }
     }
 }
 
 // What became of the words, as the end of a line.
-fn show_words(before: &[u64], after: &[u64]) {
+fn show_words(rt: &impl Print, before: &[u64], after: &[u64]) -> io::Result<()> {
     if lent::same(before, after, 0, after.len()) {
-        lines::answer(b", as it was");
+        lines::answer(rt, b", as it was")
     } else if is_stopped_alone(before, after) {
-        lines::answer(b", word 2 alone became 1");
+        lines::answer(rt, b", word 2 alone became 1")
     } else {
-        show_state(before, after);
+        show_state(rt, before, after)
     }
 }
 
@@ -408,27 +453,27 @@ fn is_stopped_alone(before: &[u64], after: &[u64]) -> bool {
 }
 
 // The leading words and the block on top. The rest is in order if it is as it was below that block and past the state, and zeros above the block.
-fn show_state(before: &[u64], after: &[u64]) {
-    lines::text(b", words");
-    show_word(after, TAKEN);
-    show_word(after, DEPTH);
-    show_word(after, STOPPED);
+fn show_state(rt: &impl Print, before: &[u64], after: &[u64]) -> io::Result<()> {
+    lines::text(rt, b", words")?;
+    show_word(rt, after, TAKEN)?;
+    show_word(rt, after, DEPTH)?;
+    show_word(rt, after, STOPPED)?;
     let top = LEADING + BLOCK * ((lent::word(after, DEPTH) % 33) as usize);
-    lines::text(b", by");
-    show_word(after, top);
-    nesting_cases::show_rows(rows_from(after, top + 1), b" no pair");
+    lines::text(rt, b", by")?;
+    show_word(rt, after, top)?;
+    nesting_cases::show_rows(rt, rows_from(after, top + 1), b" no pair")?;
     if lent::same(before, after, LEADING, top)
         & lent::same(&[0u64; 0], after, top + BLOCK, STATE)
         & lent::same(before, after, STATE, after.len())
     {
-        lines::answer(b", rest in order");
+        lines::answer(rt, b", rest in order")
     } else {
-        lines::answer(b", rest out of order");
+        lines::answer(rt, b", rest out of order")
     }
 }
 
-fn show_word(words: &[u64], place: usize) {
-    lines::next_number(lent::word(words, place) as usize);
+fn show_word(rt: &impl Print, words: &[u64], place: usize) -> io::Result<()> {
+    lines::next_number(rt, lent::word(words, place) as usize)
 }
 
 fn rows_from(words: &[u64], place: usize) -> [u64; 64]

@@ -5,162 +5,187 @@ use crate::tables::{
     WORKED,
 };
 use crate::{lent, lines, table_cases, tables};
+use std::io;
 use trim::Trimmed;
 
 // A table with more bytes is not written out.
 const SHORT: usize = 80;
 
-pub fn run() {
-    sizes_of_output();
-    refusals();
-    whole_tables();
-    aside();
-    last_of_each();
-    nothing_accepted();
-    plain_moves();
-    one_state_more();
-    marks();
+pub fn run(rt: &impl Print) -> io::Result<()> {
+    sizes_of_output(rt)?;
+    refusals(rt)?;
+    whole_tables(rt)?;
+    aside(rt)?;
+    last_of_each(rt)?;
+    nothing_accepted(rt)?;
+    plain_moves(rt)?;
+    one_state_more(rt)?;
+    marks(rt)
 }
 
-fn sizes_of_output() {
+fn sizes_of_output(rt: &impl Print) -> io::Result<()> {
     show_lent(
+        rt,
         b"trim of the worked table into 27 bytes",
         &WORKED,
         &mut [UNTOUCHED; 16385],
         &mut [UNWRITTEN; 27],
-    );
+    )?;
     show_lent(
+        rt,
         b"trim of the worked table into 26 bytes",
         &WORKED,
         &mut [UNTOUCHED; 16385],
         &mut [UNWRITTEN; 26],
-    );
+    )
 }
 
-fn refusals() {
+fn refusals(rt: &impl Print) -> io::Result<()> {
     let second = tables::worked_with(VERSION_PLACE, 2);
     show_lent(
+        rt,
         b"trim of version 2 with 16383 numbers of scratch",
         &second,
         &mut [UNTOUCHED; 16383],
         &mut [UNWRITTEN; 27],
-    );
+    )?;
     show_lent(
+        rt,
         b"trim with 16383 numbers of scratch",
         &WORKED,
         &mut [UNTOUCHED; 16383],
         &mut [UNWRITTEN; 26],
-    );
+    )
 }
 
-fn whole_tables() {
-    show(b"trim of the worked table", &WORKED);
-    show(b"trim by two marks between the same levels", &TWO_MARKS);
-    show(b"trim of levels away from their ends", &NESTED_TWICE);
-    show(b"trim of levels with a common end", &TWO_ENDS);
-    show(b"trim with a letter that no move has", &UNUSED_LETTER);
+fn whole_tables(rt: &impl Print) -> io::Result<()> {
+    show(rt, b"trim of the worked table", &WORKED)?;
+    show(rt, b"trim by two marks between the same levels", &TWO_MARKS)?;
+    show(rt, b"trim of levels away from their ends", &NESTED_TWICE)?;
+    show(rt, b"trim of levels with a common end", &TWO_ENDS)?;
+    show(rt, b"trim with a letter that no move has", &UNUSED_LETTER)
 }
 
 // State 3 has a way to the end of the level (0,2) and none from its start, and a way from the start of the level (1,1) and none to its end.
-fn aside() {
+fn aside(rt: &impl Print) -> io::Result<()> {
     let mut table = tables::changed(4, TO, 2);
     table[27] = 3;
-    show(b"trim with a state aside of both levels", &table);
+    show(rt, b"trim with a state aside of both levels", &table)
 }
 
-fn last_of_each() {
+fn last_of_each(rt: &impl Print) -> io::Result<()> {
     let table = tables::last_of_each();
-    show(b"trim of the last state and mark", &table[0..LAST_BYTES]);
+    show(
+        rt,
+        b"trim of the last state and mark",
+        &table[0..LAST_BYTES],
+    )
 }
 
-fn nothing_accepted() {
-    show(b"trim of no states", &[0, 6, 1, 0, 0, 0, 0, 0]);
+fn nothing_accepted(rt: &impl Print) -> io::Result<()> {
+    show(rt, b"trim of no states", &[0, 6, 1, 0, 0, 0, 0, 0])?;
     show(
+        rt,
         b"trim of no final state",
         &tables::worked_with(FINAL_PLACE, 0),
-    );
+    )
 }
 
 // Each state is initial and final and has a move to each: n states make n^3 trimmed states, and a move n^2 trimmed moves.
 // Where the first alone is initial, they make n^2 trimmed states, and a move n trimmed moves.
-fn plain_moves() {
-    show_plain(b"trim of four states alike", 4, 1, 16, 3);
-    show_plain(b"trim of five states alike", 5, 1, 25, 3);
-    show_plain(b"trim to 1024 moves", 4, 4, 64, 3);
-    show_plain(b"trim to 1025 moves", 5, 9, 205, 2);
+fn plain_moves(rt: &impl Print) -> io::Result<()> {
+    show_plain(rt, b"trim of four states alike", 4, 1, 16, 3)?;
+    show_plain(rt, b"trim of five states alike", 5, 1, 25, 3)?;
+    show_plain(rt, b"trim to 1024 moves", 4, 4, 64, 3)?;
+    show_plain(rt, b"trim to 1025 moves", 5, 9, 205, 2)
 }
 
 // Four states alike, and one with no move.
-fn one_state_more() {
+fn one_state_more(rt: &impl Print) -> io::Result<()> {
     let mut table = tables::of_all_moves(5, 1, 1, 4, 16, 3);
     table[13] = 3;
     show_lent(
+        rt,
         b"trim to 65 states into 0 bytes",
         lent::front(&table, 78),
         &mut [UNTOUCHED; 16385],
         &mut [UNWRITTEN; 0],
-    );
+    )
 }
 
 // Each mark is pushed on the way from any state to state 0, and popped there.
-fn marks() {
-    show_marks(b"trim to 64 marks", 4, 16, 128);
-    show_marks(b"trim to 65 marks", 5, 13, 130);
+fn marks(rt: &impl Print) -> io::Result<()> {
+    show_marks(rt, b"trim to 64 marks", 4, 16, 128)?;
+    show_marks(rt, b"trim to 65 marks", 5, 13, 130)
 }
 
-fn show_plain(label: &[u8], states: u8, letters: u8, moves: u16, others: u8) {
+fn show_plain(
+    rt: &impl Print,
+    label: &[u8],
+    states: u8,
+    letters: u8,
+    moves: u16,
+    others: u8,
+) -> io::Result<()> {
     let table = tables::of_all_moves(states, letters, 1, states, moves, others);
     let size = tables::length(states, letters, moves) + 2;
-    show(label, lent::front(&table, size));
+    show(rt, label, lent::front(&table, size))
 }
 
-fn show_marks(label: &[u8], states: u8, marks: u8, moves: u16) {
+fn show_marks(rt: &impl Print, label: &[u8], states: u8, marks: u8, moves: u16) -> io::Result<()> {
     let mut table = tables::of_all_moves(states, 2, marks, 1, moves, 3);
     table[8] = 1;
     table[9] = 2;
     let size = tables::length(states, 2, moves) + 2;
-    show(label, lent::front(&table, size));
+    show(rt, label, lent::front(&table, size))
 }
 
-fn show(label: &[u8], table: &[u8]) {
+fn show(rt: &impl Print, label: &[u8], table: &[u8]) -> io::Result<()> {
     show_lent(
+        rt,
         label,
         table,
         &mut [UNTOUCHED; 16384],
         &mut [UNWRITTEN; 4200],
-    );
+    )
 }
 
-fn show_lent(label: &[u8], table: &[u8], scratch: &mut [u16], out: &mut [u8]) {
-    lines::label(label);
+fn show_lent(
+    rt: &impl Print,
+    label: &[u8],
+    table: &[u8],
+    scratch: &mut [u16],
+    out: &mut [u8],
+) -> io::Result<()> {
+    lines::label(rt, label)?;
     let answer = trim::trim(table, scratch, out);
-    show_answer(answer, out);
-    lent::show_scratch(cleared(answer), scratch);
+    show_answer(rt, answer, out)?;
+    lent::show_scratch(rt, cleared(answer), scratch)
 }
 
-fn show_answer(answer: Trimmed, out: &[u8]) {
+fn show_answer(rt: &impl Print, answer: Trimmed, out: &[u8]) -> io::Result<()> {
     match answer {
         Trimmed::Refused(number) => {
-            lines::refused(number);
-            lent::show_rest(out, 0);
+            lines::refused(rt, number)?;
+            lent::show_rest(rt, out, 0)
         }
         Trimmed::Bytes(bytes) => {
-            show_trimmed(lent::front(out, bytes));
-            lent::show_rest(out, bytes);
+            show_trimmed(rt, lent::front(out, bytes))?;
+            lent::show_rest(rt, out, bytes)
         }
     }
 }
 
-fn show_trimmed(bytes: &[u8]) {
-    lines::number(bytes.len());
+fn show_trimmed(rt: &impl Print, bytes: &[u8]) -> io::Result<()> {
+    lines::number(rt, bytes.len())?;
     if bytes.len() <= SHORT {
-        lines::text(b" bytes ");
-        lines::hex(bytes);
+        lines::text(rt, b" bytes ")?;
+        lines::hex(rt, bytes)
     } else {
-        lines::text(b" bytes, ");
-        table_cases::show_checked(bytes);
-        lines::text(b", sum");
-        lines::next_number(checksum(bytes));
+        lines::text(rt, b" bytes, ")?;
+        table_cases::show_checked(rt, bytes)?;
+        lines::text(rt, b", sum")?;
+        lines::next_number(rt, checksum(bytes))
     }
 }
 

@@ -24,7 +24,7 @@ fn printed(input: &[u8]) -> Vec<u8> {
         .stdin(Stdio::piped())
         .stdout(Stdio::piped())
         .spawn()
-        .expect("the report program is at target/bin/report; `rt check report` makes it");
+        .expect("the report program is at target/bin/report; `./run` makes it");
     let mut stdin = program.stdin.take().expect("the input is a pipe");
     match stdin.write_all(input) {
         // It need not read on once it knows that the input is too long.
