@@ -28,14 +28,14 @@ nomyugereka_read_log_spec =
     (λ c κs. (omega (arith, state_size_lem), omega (arith, state_size_lem)))
     (λ c κs.
     let args = c.args in
-    let value = ap value_of c.before.before.before.before.before.before.read_Log.ensures.0 in
+    let value = ap value_of c.read_log-heard.ensures.0 in
     omega (arith, value, longest_log_lem, log_value args.table.now args.log.now c.words_in-words.result))
     (λ c. search rules)
     (λ c.
     let args = c.args in
     let on = log_call args.table.now args.log.now in
     let words = c.words_in-words.ensures in
-    let heard = c.before.before.before.before.before.before.before.read_Log.ensures in (
+    let heard = c.read_log-heard.ensures in (
       enough_answer args.table.now args.state.now on (omega (arith, state_size_lem)) words heard.0 c.heard.ensures,
       enough_written args.table.now args.state.now on (omega (arith, state_size_lem)) words heard.1 c.put.ensures,
     )))
