@@ -1,6 +1,6 @@
 -- What the exported calls promise beside the libraries' own laws: a number tells the answer, and which bytes of a state stay. Two answers that meet a contract are
 -- equal, since each is a function of what the call is given; of the shortest log that is `exported_shortest_once`.
-use Prim.Native.Nat.{ℕ, zero, suc, ◌+◌, ◌/◌, ◌%◌, ◌<◌, ◌≤◌}
+use Prim.Native.Nat.{ℕ, zero, suc, ◌/◌, ◌%◌, ◌<◌, ◌≤◌}
 use mathlib.Core.Logic.{◌⊎◌, inl, inr}
 use mathlib.Core.List.{List, ◌++◌, append-nil}
 use mathlib.Core.Option.{Option, none, some}

@@ -1,6 +1,5 @@
 use native.Mathlib.Omega.{arith}
 use borrow.Author.Rules.{rules}
-use borrow.Author.Tests.{not-true, not-false}
 use mathlib.Core.Path.{sym, ap, ◌∙◌}
 use Rattle.table.specs.Answers.{checked_as}
 use Rattle.table.proofs.CallLaws.{Counted, when_good, when_refused}
