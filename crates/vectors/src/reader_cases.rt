@@ -122,13 +122,16 @@ fn marks(rt: &impl Print) -> io::Result<()> {
 
 fn nested(rt: &impl Print) -> io::Result<()> {
     lines::label(rt, b"one state")?;
-    let begun = begin(rt, &ONE_STATE, [0u64; STATE])?;
+    let mut state = [0u64; STATE];
+    begin(rt, &ONE_STATE, &mut state)?;
     lines::label(rt, b"after 31 opens")?;
-    let deep = letter(rt, &ONE_STATE, repeated(&ONE_STATE, begun, 0, 31), 0)?;
-    deepest(rt, deep)?;
+    state = repeated(&ONE_STATE, state, 0, 31);
+    letter(rt, &ONE_STATE, &mut state, 0)?;
+    deepest(rt, state)?;
     lines::label(rt, b"after 31 closes")?;
-    let back = letter(rt, &ONE_STATE, repeated(&ONE_STATE, deep, 1, 31), 1)?;
-    show_both(rt, b"back at depth 0", &ONE_STATE, back, 1)
+    state = repeated(&ONE_STATE, state, 1, 31);
+    letter(rt, &ONE_STATE, &mut state, 1)?;
+    show_both(rt, b"back at depth 0", &ONE_STATE, state, 1)
 }
 
 // At depth 32 an open letter is refused, also one that no move has. 11 and 12 come before that.
@@ -297,10 +300,9 @@ fn sizes(rt: &impl Print) -> io::Result<()> {
 // Begin does not ask what the words hold.
 fn old_words(rt: &impl Print) -> io::Result<()> {
     lines::label(rt, b"words that are no state")?;
-    begin(rt, &WORKED, [OLD_WORD; STATE])?;
+    begin(rt, &WORKED, &mut [OLD_WORD; STATE])?;
     lines::label(rt, b"words that are no state, no states")?;
-    begin(rt, &EMPTY, [OLD_WORD; STATE])?;
-    Ok(())
+    begin(rt, &EMPTY, &mut [OLD_WORD; STATE])
 }
 
 // Words past the state stay.
@@ -319,11 +321,11 @@ fn further_words(rt: &impl Print) -> io::Result<()> {
 // Begin, each letter, finish.
 fn show_log(rt: &impl Print, words: &[u8], table: &[u8], log: &[u8]) -> io::Result<()> {
     lines::log_label(rt, words, log)?;
-    let mut state = begin(rt, table, [0u64; STATE])?;
+    let mut state = [0u64; STATE];
+    begin(rt, table, &mut state)?;
     for i in 0..log.len() {
         lines::log_label(rt, words, log)?;
-        let next = letter(rt, table, state, log[i])?;
-        state = next;
+        letter(rt, table, &mut state, log[i])?;
     }
     lines::log_label(rt, words, log)?;
     finish(rt, table, state)?;
@@ -341,8 +343,8 @@ fn show_both(
     lines::label(rt, label)?;
     finish(rt, table, state)?;
     lines::text(rt, b", ")?;
-    letter(rt, table, state, number)?;
-    Ok(())
+    let mut next = state;
+    letter(rt, table, &mut next, number)
 }
 
 // The same after letter 1 on the worked table, with another word at one place.
@@ -394,27 +396,20 @@ fn show_refused(rt: &impl Print, label: &[u8], table: &[u8], words: &mut [u64]) 
     show_words(rt, &[OLD_WORD; STATE], words)
 }
 
-fn begin(rt: &impl Print, table: &[u8], state: [u64; STATE]) -> io::Result<[u64; STATE]> {
-    let mut next = state;
+fn begin(rt: &impl Print, table: &[u8], state: &mut [u64; STATE]) -> io::Result<()> {
+    let before = *state;
     lines::text(rt, b"begin ")?;
-    show_heard(rt, reader::begin(table, &mut next))?;
-    show_words(rt, &state, &next)?;
-    Ok(next)
+    show_heard(rt, reader::begin(table, state))?;
+    show_words(rt, &before, state)
 }
 
-fn letter(
-    rt: &impl Print,
-    table: &[u8],
-    state: [u64; STATE],
-    number: u8,
-) -> io::Result<[u64; STATE]> {
-    let mut next = state;
+fn letter(rt: &impl Print, table: &[u8], state: &mut [u64; STATE], number: u8) -> io::Result<()> {
+    let before = *state;
     lines::text(rt, b"letter")?;
     lines::next_number(rt, number as usize)?;
     lines::text(rt, b" ")?;
-    show_heard(rt, reader::letter(table, &mut next, number))?;
-    show_words(rt, &state, &next)?;
-    Ok(next)
+    show_heard(rt, reader::letter(table, state, number))?;
+    show_words(rt, &before, state)
 }
 
 fn finish(rt: &impl Print, table: &[u8], state: [u64; STATE]) -> io::Result<()> {
