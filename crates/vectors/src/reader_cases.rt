@@ -125,24 +125,30 @@ fn nested(rt: &impl Print) -> io::Result<()> {
     let mut state = [0u64; STATE];
     begin(rt, &ONE_STATE, &mut state)?;
     lines::label(rt, b"after 31 opens")?;
-    state = repeated(&ONE_STATE, state, 0, 31);
+    repeated(&ONE_STATE, &mut state, 0, 31);
     letter(rt, &ONE_STATE, &mut state, 0)?;
-    deepest(rt, state)?;
+    deepest(rt, &state)?;
     lines::label(rt, b"after 31 closes")?;
-    state = repeated(&ONE_STATE, state, 1, 31);
+    repeated(&ONE_STATE, &mut state, 1, 31);
     letter(rt, &ONE_STATE, &mut state, 1)?;
-    show_both(rt, b"back at depth 0", &ONE_STATE, state, 1)
+    show_both(rt, b"back at depth 0", &ONE_STATE, &state, 1)
 }
 
 // At depth 32 an open letter is refused, also one that no move has. 11 and 12 come before that.
-fn deepest(rt: &impl Print, state: [u64; STATE]) -> io::Result<()> {
+fn deepest(rt: &impl Print, state: &[u64; STATE]) -> io::Result<()> {
     show_both(rt, b"at depth 32", &ONE_STATE, state, 0)?;
     show_both(rt, b"at depth 32, with no move", &ONE_STATE, state, 2)?;
     show_both(rt, b"at depth 32, a plain letter", &ONE_STATE, state, 3)?;
     show_both(rt, b"at depth 32, past the letters", &ONE_STATE, state, 5)?;
-    let mut last = state;
+    let mut last = *state;
     last[TAKEN] = MOST;
-    show_both(rt, b"at depth 32 and 16777215 letters", &ONE_STATE, last, 0)
+    show_both(
+        rt,
+        b"at depth 32 and 16777215 letters",
+        &ONE_STATE,
+        &last,
+        0,
+    )
 }
 
 // Of the leading words and of the letters of blocks. At depth 0 the block above is left over, and at depth 2 the letter 0 of its block is not open.
@@ -176,18 +182,24 @@ fn broken_rows(rt: &impl Print) -> io::Result<()> {
 fn several_faults(rt: &impl Print) -> io::Result<()> {
     let mut state = inside();
     state[STOPPED] = 1;
-    show_both(rt, b"stopped", &WORKED, state, 4)?;
+    show_both(rt, b"stopped", &WORKED, &state, 4)?;
     state[LAST_WORD] = 1;
-    show_both(rt, b"stopped and the last word not zero", &WORKED, state, 4)?;
+    show_both(
+        rt,
+        b"stopped and the last word not zero",
+        &WORKED,
+        &state,
+        4,
+    )?;
     state[STOPPED] = 0;
-    show_both(rt, b"the last word not zero", &WORKED, state, 4)
+    show_both(rt, b"the last word not zero", &WORKED, &state, 4)
 }
 
 // Zeros are a state that holds no pair.
 fn zeros(rt: &impl Print) -> io::Result<()> {
-    show_both(rt, b"zeros", &WORKED, [0u64; STATE], 0)?;
-    show_both(rt, b"zeros", &WORKED, [0u64; STATE], 4)?;
-    show_both(rt, b"zeros and no states", &EMPTY, [0u64; STATE], 0)
+    show_both(rt, b"zeros", &WORKED, &[0u64; STATE], 0)?;
+    show_both(rt, b"zeros", &WORKED, &[0u64; STATE], 4)?;
+    show_both(rt, b"zeros and no states", &EMPTY, &[0u64; STATE], 0)
 }
 
 // 12 comes after a stop and after 11, and before the stop of a close at depth 0.
@@ -195,30 +207,36 @@ fn most_letters(rt: &impl Print) -> io::Result<()> {
     let mut state = [0u64; STATE];
     state[ROWS_0] = 1;
     state[TAKEN] = MOST - 1;
-    show_both(rt, b"16777214 letters", &WORKED, state, 1)?;
-    show_both(rt, b"16777214 letters", &WORKED, state, 2)?;
+    show_both(rt, b"16777214 letters", &WORKED, &state, 1)?;
+    show_both(rt, b"16777214 letters", &WORKED, &state, 2)?;
     state[TAKEN] = MOST;
-    show_both(rt, b"16777215 letters", &WORKED, state, 1)?;
-    show_both(rt, b"16777215 letters", &WORKED, state, 2)?;
-    show_both(rt, b"16777215 letters", &WORKED, state, 4)?;
+    show_both(rt, b"16777215 letters", &WORKED, &state, 1)?;
+    show_both(rt, b"16777215 letters", &WORKED, &state, 2)?;
+    show_both(rt, b"16777215 letters", &WORKED, &state, 4)?;
     state[STOPPED] = 1;
-    show_both(rt, b"16777215 letters, stopped", &WORKED, state, 4)
+    show_both(rt, b"16777215 letters, stopped", &WORKED, &state, 4)
 }
 
 // Each call goes by its own table. The trimmed one has no state 3, and its state 2 is not final.
 fn carried(rt: &impl Print) -> io::Result<()> {
-    show_both(rt, b"carried to the trimmed table", &TRIMMED, inside(), 2)?;
+    show_both(rt, b"carried to the trimmed table", &TRIMMED, &inside(), 2)?;
     show_both(
         rt,
         b"carried to where letter 1 closes",
         &tables::worked_with(KINDS_PLACE + 1, 2),
-        inside(),
+        &inside(),
         2,
     )?;
     let mut state = [0u64; STATE];
     state[ROWS_0] = 4;
-    show_both(rt, b"a pair (0,2)", &WORKED, state, 2)?;
-    show_both(rt, b"a pair (0,2) on the trimmed table", &TRIMMED, state, 2)
+    show_both(rt, b"a pair (0,2)", &WORKED, &state, 2)?;
+    show_both(
+        rt,
+        b"a pair (0,2) on the trimmed table",
+        &TRIMMED,
+        &state,
+        2,
+    )
 }
 
 // Accepted are pairs at depth 0 with an initial first half. A close keeps the first halves of the block below.
@@ -227,11 +245,11 @@ fn halves(rt: &impl Print) -> io::Result<()> {
     show_changed(rt, b"a pair (0,2) at depth 1", ROWS_1, 4)?;
     let mut state = [0u64; STATE];
     state[ROWS_0 + 1] = 4;
-    show_both(rt, b"a pair (1,2)", &WORKED, state, 2)?;
+    show_both(rt, b"a pair (1,2)", &WORKED, &state, 2)?;
     let mut above = inside();
     above[ROWS_0] = 0;
     above[ROWS_0 + 3] = 1;
-    show_both(rt, b"a pair (3,0) below", &WORKED, above, 2)
+    show_both(rt, b"a pair (3,0) below", &WORKED, &above, 2)
 }
 
 // With 64 states a row may have every digit, and with 63 all but the last.
@@ -243,7 +261,7 @@ fn last_states(rt: &impl Print) -> io::Result<()> {
         rt,
         b"64 states, a pair (63,63)",
         tables::whole(&chain),
-        state,
+        &state,
         0,
     )?;
     state[ROWS_0] = DIGIT_62;
@@ -251,7 +269,7 @@ fn last_states(rt: &impl Print) -> io::Result<()> {
         rt,
         b"64 states, a pair (0,62) too",
         tables::whole(&chain),
-        state,
+        &state,
         0,
     )?;
     let fewer = tables::of_counts(63, 1, 0, 0);
@@ -259,7 +277,7 @@ fn last_states(rt: &impl Print) -> io::Result<()> {
         rt,
         b"63 states, a pair (63,63)",
         tables::whole(&fewer),
-        state,
+        &state,
         0,
     )?;
     state[ROWS_0 + 63] = 0;
@@ -267,7 +285,7 @@ fn last_states(rt: &impl Print) -> io::Result<()> {
         rt,
         b"63 states, a pair (0,62)",
         tables::whole(&fewer),
-        state,
+        &state,
         0,
     )?;
     state[ROWS_0] = DIGIT_63;
@@ -275,7 +293,7 @@ fn last_states(rt: &impl Print) -> io::Result<()> {
         rt,
         b"63 states, a pair (0,63)",
         tables::whole(&fewer),
-        state,
+        &state,
         0,
     )
 }
@@ -328,7 +346,7 @@ fn show_log(rt: &impl Print, words: &[u8], table: &[u8], log: &[u8]) -> io::Resu
         letter(rt, table, &mut state, log[i])?;
     }
     lines::log_label(rt, words, log)?;
-    finish(rt, table, state)?;
+    finish(rt, table, &state)?;
     lines::end(rt)
 }
 
@@ -337,13 +355,13 @@ fn show_both(
     rt: &impl Print,
     label: &[u8],
     table: &[u8],
-    state: [u64; STATE],
+    state: &[u64; STATE],
     number: u8,
 ) -> io::Result<()> {
     lines::label(rt, label)?;
     finish(rt, table, state)?;
     lines::text(rt, b", ")?;
-    let mut next = state;
+    let mut next = *state;
     letter(rt, table, &mut next, number)
 }
 
@@ -353,7 +371,7 @@ fn show_changed(rt: &impl Print, label: &[u8], place: usize, word: u64) -> io::R
     if place < STATE {
         state[place] = word;
     }
-    show_both(rt, label, &WORKED, state, 0)
+    show_both(rt, label, &WORKED, &state, 0)
 }
 
 // The state after letter 1 on the worked table.
@@ -368,20 +386,15 @@ fn inside() -> [u64; STATE] {
     state
 }
 
-// The state after the same letter so many times.
-fn repeated(table: &[u8], state: [u64; STATE], number: u8, times: usize) -> [u64; STATE] {
-    let mut last = state;
+// The same letter so many times.
+fn repeated(table: &[u8], state: &mut [u64; STATE], number: u8, times: usize) {
     for i in 0..times {
-        let next = after(table, last, number);
-        last = next;
+        after(table, state, number);
     }
-    last
 }
 
-fn after(table: &[u8], state: [u64; STATE], number: u8) -> [u64; STATE] {
-    let mut next = state;
-    reader::letter(table, &mut next, number);
-    next
+fn after(table: &[u8], state: &mut [u64; STATE], number: u8) {
+    reader::letter(table, state, number);
 }
 
 // Each call in words that it leaves as they were.
@@ -412,9 +425,9 @@ fn letter(rt: &impl Print, table: &[u8], state: &mut [u64; STATE], number: u8) -
     show_words(rt, &before, state)
 }
 
-fn finish(rt: &impl Print, table: &[u8], state: [u64; STATE]) -> io::Result<()> {
+fn finish(rt: &impl Print, table: &[u8], state: &[u64; STATE]) -> io::Result<()> {
     lines::text(rt, b"finish ")?;
-    show_heard(rt, reader::finish(table, &state))
+    show_heard(rt, reader::finish(table, state))
 }
 
 pub fn show_heard(rt: &impl Print, answer: Heard) -> io::Result<()> {
