@@ -4,6 +4,7 @@ use crate::{lines, tables};
 use balance::Weighed;
 use std::io;
 
+#[inline(never)]
 pub fn run(rt: &impl Print) -> io::Result<()> {
     around_zero(rt)?;
     far_from_zero(rt)?;

@@ -5,6 +5,7 @@ use crate::{lent, lines, reader_cases, tables};
 use shortest::Shown;
 use std::io;
 
+#[inline(never)]
 pub fn run(rt: &impl Print) -> io::Result<()> {
     examples(rt, b"worked table, whole log", &WORKED)?;
     examples(rt, b"trimmed table, whole log", &TRIMMED)?;

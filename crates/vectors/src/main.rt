@@ -15,6 +15,7 @@ mod trim_cases;
 
 use std::io;
 
+// None of these is inlined: what one lends from its stack is not to lie there while the next one runs.
 fn main(rt: HostRuntime) -> io::Result<()> {
     table_cases::run(&rt)?;
     nesting_cases::run(&rt)?;

@@ -8,6 +8,7 @@ use std::io;
 // Every digit is 1.
 const FULL_ROW: u64 = 18446744073709551615;
 
+#[inline(never)]
 pub fn run(rt: &impl Print) -> io::Result<()> {
     sizes_of_scratch(rt)?;
     refusals(rt)?;

@@ -41,6 +41,7 @@ const DIGIT_62: u64 = 4611686018427387904;
 
 const DIGIT_63: u64 = 9223372036854775808;
 
+#[inline(never)]
 pub fn run(rt: &impl Print) -> io::Result<()> {
     examples(rt, b"worked table, log", &WORKED)?;
     examples(rt, b"trimmed table, log", &TRIMMED)?;

@@ -15,6 +15,7 @@ const BOTH_ENDS: [u8; 9] = [0, 7, 1, 1, 0, 0, 0, 0, 3];
 // A plain move from the final state to the initial one.
 const BACKWARD: [u8; 15] = [0, 13, 1, 2, 1, 0, 0, 1, 0, 1, 2, 1, 0, 0, 0];
 
+#[inline(never)]
 pub fn run(rt: &impl Print) -> io::Result<()> {
     sizes_of_output(rt)?;
     refusals(rt)?;

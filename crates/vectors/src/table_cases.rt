@@ -8,6 +8,7 @@ use crate::{lent, lines, tables};
 use std::io;
 use table::{Checked, Got, KindAt, Table, Written};
 
+#[inline(never)]
 pub fn run(rt: &impl Print) -> io::Result<()> {
     fronts(rt)?;
     whole_tables(rt)?;

@@ -11,6 +11,7 @@ use trim::Trimmed;
 // A table with more bytes is not written out.
 const SHORT: usize = 80;
 
+#[inline(never)]
 pub fn run(rt: &impl Print) -> io::Result<()> {
     sizes_of_output(rt)?;
     refusals(rt)?;
