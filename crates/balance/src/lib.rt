@@ -17,13 +17,13 @@ ghost use Rattle.balance.specs.Calls.{letters_weighed, balance_call};
 use table::{Checked, KindAt, Table, refusal};
 
 // The balance of the letters so far, and the lowest of all prefixes.
-#[derive(Drop)]
+#[derive(Clone, Copy)]
 pub struct Tally {
     pub balance: i32,
     pub lowest: i32,
 }
 
-#[derive(Drop)]
+#[derive(Clone, Copy)]
 pub enum Weighed {
     Refused(u8),
     Tally(Tally),

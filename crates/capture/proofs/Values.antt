@@ -139,7 +139,7 @@ trim_count s scratch out {n} e =
     let h = trim_answered s scratch out n e in
     omega (arith, largest_size, h.counted, good_longest (trimmed_bytes s) (ap verdict (sym h.front) ∙ h.passes))
 
-pub shortest_count : (s scratch out : List ℕ) {answer : Answer (Option ℕ)} {left outAfter : List ℕ} {n : ℕ} → ShortestCall s scratch out answer left outAfter
+pub shortest_count : (s scratch out : List ℕ) {answer : Answer (Option ℕ)} {left out_after : List ℕ} {n : ℕ} → ShortestCall s scratch out answer left out_after
     → answer ≡ answered (some n) → n ≤ 4096
 unfolding most_shown
 shortest_count s scratch out {n = n} call e =

@@ -12,10 +12,10 @@ use Rattle.capture.specs.Numbers.{shown_number, heard_number}
 use Rattle.capture.specs.State.{state_bytes, lent_words, with_words}
 
 -- The call for a shortest log, a relation as that of the library is.
-pub record ExportedShortest (s scratch out : List ℕ) (number : ℕ) (scratchLeft outAfter : List ℕ) : Type 0 where
+pub record ExportedShortest (s scratch out : List ℕ) (number : ℕ) (scratch_left out_after : List ℕ) : Type 0 where
   pub answer : Answer (Option ℕ)
   pub told : number ≡ shown_number answer
-  pub meets : ShortestCall s scratch out answer scratchLeft outAfter
+  pub meets : ShortestCall s scratch out answer scratch_left out_after
 
 -- A call of a reader: the number of its answer, and the bytes of the state afterwards.
 pub record Exported : Type 0 where

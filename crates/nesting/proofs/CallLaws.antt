@@ -126,8 +126,8 @@ nesting_refused s scratch k e = by (nesting_does s scratch) where
 
 -- What the contract says of an answer, of rows and of scratch afterwards; and how the code comes to it, refusing or not.
 abbrev pub Meets : List ℕ → List ℕ → Answer Sizes → List ℕ → List ℕ → List ℕ → Type 0
-Meets s scratch answer pairRows levelRows after =
-    (answer ≡ nesting_answer s scratch) × ((pairRows ≡ nesting_pairs s scratch) × ((levelRows ≡ nesting_levels s scratch) × (after ≡ scratch_after s scratch)))
+Meets s scratch answer pair_rows level_rows after =
+    (answer ≡ nesting_answer s scratch) × ((pair_rows ≡ nesting_pairs s scratch) × ((level_rows ≡ nesting_levels s scratch) × (after ≡ scratch_after s scratch)))
 
 pub meets_refused : (s scratch : List ℕ) {k : ℕ} {answer : Answer Sizes} {p l : List ℕ} → nesting_answer s scratch ≡ refused k
     → answer ≡ refused k → p ≡ replicate 64 0 → l ≡ replicate 64 0 → Meets s scratch answer p l scratch

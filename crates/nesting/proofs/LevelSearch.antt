@@ -19,13 +19,13 @@ pub record LevelsUnder (t : Table) (back live : List ℕ) : Type 0 where
   pub start : (q o : ℕ) → TopBack t back q o → Holds live q o
   pub sound : (q o : ℕ) → Holds live q o → Memᴰ (o, q) (levels t)
 
-module _ (t : Table) (fit : IsTable t) {b back : List ℕ} (pairsHeld : HoldsExactly b (Listed (pairs t))) (turned : HoldsExactly back (Turned b)) where
+module _ (t : Table) (fit : IsTable t) {b back : List ℕ} (pairs_held : HoldsExactly b (Listed (pairs t))) (turned : HoldsExactly back (Turned b)) where
   -- The rows b and back hold the balanced pairs.
   balanced : {p q : ℕ} → Holds b p q → Balanced (automaton t) p q
-  balanced {p} {q} h = pairs_balanced t p q ((pairsHeld.at p q).0 h).member
+  balanced {p} {q} h = pairs_balanced t p q ((pairs_held.at p q).0 h).member
 
   held : {p q : ℕ} → Balanced (automaton t) p q → p < state_count t → Holds b p q
-  held {p} {q} w low = (pairsHeld.at p q).1 (record { member = (pairs_complete t fit w low).1 })
+  held {p} {q} w low = (pairs_held.at p q).1 (record { member = (pairs_complete t fit w low).1 })
 
   back_balanced : {q o : ℕ} → Holds back q o → Balanced (automaton t) o q
   back_balanced {q} {o} h = balanced ((turned.at q o).0 h).back

@@ -46,7 +46,7 @@ pub enum Found {
 }
 
 // The answer, and beside it the rows of both relations, which are zeros where the answer is a refusal.
-#[derive(Drop)]
+#[derive(Clone, Copy)]
 pub struct Nesting {
     pub found: Found,
     pub pairs: [u64; 64],

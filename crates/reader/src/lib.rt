@@ -29,7 +29,7 @@ use table::{Checked, KindAt, refusal};
 pub mod layout;
 
 // What a reader answers. Stop has its place: how many letters were taken until then.
-#[derive(Drop)]
+#[derive(Clone, Copy)]
 pub enum Heard {
     Refused(u8),
     Going,

@@ -44,7 +44,7 @@ Says t out (answered (some n)) = Shortest (automaton t) n × (n ≤ most_shown) 
 
 module _ (t : Table) (out : List ℕ) where
   -- A table shows what its answer says,
-  shows_says : {answer : Answer (Option ℕ)} {outAfter : List ℕ} → ShowsLog t out answer outAfter → Says t out answer
+  shows_says : {answer : Answer (Option ℕ)} {out_after : List ℕ} → ShowsLog t out answer out_after → Says t out answer
   shows_says (shows_none h) = h
   shows_says (shows_long {w} a l) = inl (refl, ((w, a), l))
   shows_says (shows_no_room {n} m l g) = inr (refl, (n, m, l, g))
@@ -80,11 +80,11 @@ module _ (t : Table) (out : List ℕ) where
   says_once (answered (some n)) (answered (some m)) g h = ap (λ x. answered (some x)) (shortest_equal (automaton t) g.0 h.0)
 
   -- So an answer is given exactly where it says what is so.
-  shows_iff : {answer : Answer (Option ℕ)} {outAfter : List ℕ} → ShowsLog t out answer outAfter → (b : Answer (Option ℕ)) → (answer ≡ b) ↔ Says t out b
+  shows_iff : {answer : Answer (Option ℕ)} {out_after : List ℕ} → ShowsLog t out answer out_after → (b : Answer (Option ℕ)) → (answer ≡ b) ↔ Says t out b
   shows_iff {answer} h b = (λ e. subst (Says t out) e (shows_says h), λ w. says_once answer b (shows_says h) w)
 
   -- Only a log changes the output.
-  shows_kept : {answer : Answer (Option ℕ)} {outAfter : List ℕ} → ShowsLog t out answer outAfter → ((n : ℕ) → answer ≡ answered (some n) → ⊥) → outAfter ≡ out
+  shows_kept : {answer : Answer (Option ℕ)} {out_after : List ℕ} → ShowsLog t out answer out_after → ((n : ℕ) → answer ≡ answered (some n) → ⊥) → out_after ≡ out
   shows_kept (shows_none h) no-log = refl
   shows_kept (shows_long a l) no-log = refl
   shows_kept (shows_no_room m l g) no-log = refl
@@ -107,28 +107,28 @@ module _ (s scratch out : List ℕ) where
   meets_short good l =
       meets_refused (on_short scratch_size s scratch (ShowsLog (parse s) out (refused 7) out) (Refuses out (refused 7) out) good l) (on_short scratch_size s scratch (cleared scratch) (λ j. scratch) good l)
 
-  pub meets_shown : {answer : Answer (Option ℕ)} {left outAfter : List ℕ} → verdict s ≡ 0 → scratch_size ≤ length scratch
-      → ShowsLog (parse s) out answer outAfter → left ≡ cleared scratch → ShortestCall s scratch out answer left outAfter
-  meets_shown {answer} {left} {outAfter} good l h e = record {
-    answers = subst (λ X. X) (sym (on_lent scratch_size s scratch (ShowsLog (parse s) out answer outAfter) (Refuses out answer outAfter) good l)) h;
+  pub meets_shown : {answer : Answer (Option ℕ)} {left out_after : List ℕ} → verdict s ≡ 0 → scratch_size ≤ length scratch
+      → ShowsLog (parse s) out answer out_after → left ≡ cleared scratch → ShortestCall s scratch out answer left out_after
+  meets_shown {answer} {left} {out_after} good l h e = record {
+    answers = subst (λ X. X) (sym (on_lent scratch_size s scratch (ShowsLog (parse s) out answer out_after) (Refuses out answer out_after) good l)) h;
     leaves = e ∙ sym (on_lent scratch_size s scratch (cleared scratch) (λ j. scratch) good l);
   }
 
   -- The call, case by case: it refuses what is no table, then short scratch, and leaves both memories; else scratch is cleared, and `ShowsLog` says what the table
   -- is answered with: no log is accepted, or each has too many letters, or there is no room for a shortest one, or one stands in front of the output.
-  pub data Does (answer : Answer (Option ℕ)) (left outAfter : List ℕ) : Type 0 where
-    no_table : (verdict s ≡ 0 → ⊥) → answer ≡ refused (verdict s) → left ≡ scratch → outAfter ≡ out → Does answer left outAfter
-    no_scratch : verdict s ≡ 0 → length scratch < scratch_size → answer ≡ refused 7 → left ≡ scratch → outAfter ≡ out → Does answer left outAfter
-    shows : verdict s ≡ 0 → scratch_size ≤ length scratch → ShowsLog (parse s) out answer outAfter → left ≡ cleared scratch → Does answer left outAfter
+  pub data Does (answer : Answer (Option ℕ)) (left out_after : List ℕ) : Type 0 where
+    no_table : (verdict s ≡ 0 → ⊥) → answer ≡ refused (verdict s) → left ≡ scratch → out_after ≡ out → Does answer left out_after
+    no_scratch : verdict s ≡ 0 → length scratch < scratch_size → answer ≡ refused 7 → left ≡ scratch → out_after ≡ out → Does answer left out_after
+    shows : verdict s ≡ 0 → scratch_size ≤ length scratch → ShowsLog (parse s) out answer out_after → left ≡ cleared scratch → Does answer left out_after
 
   -- Answered with n, the first n letters of the output are a shortest accepted log, and what lies past them is as it was.
-  pub record ShownIn (n : ℕ) (outAfter : List ℕ) : Type 0 where
+  pub record ShownIn (n : ℕ) (out_after : List ℕ) : Type 0 where
     pub good : verdict s ≡ 0
     pub lends : scratch_size ≤ length scratch
-    pub accepted : Accepts (automaton (parse s)) (take n outAfter)
-    pub long : length (take n outAfter) ≡ n
+    pub accepted : Accepts (automaton (parse s)) (take n out_after)
+    pub long : length (take n out_after) ≡ n
     pub none_shorter : (v : List ℕ) → Accepts (automaton (parse s)) v → n ≤ length v
-    pub after : outAfter ≡ take n outAfter ++ drop n out
+    pub after : out_after ≡ take n out_after ++ drop n out
 
   -- What may differ between two outcomes, both answered with n: which of several shortest logs stands in front of the output.
   pub record OtherLog (answer : Answer (Option ℕ)) (o p : List ℕ) : Type 0 where
@@ -152,28 +152,28 @@ module _ (s scratch out : List ℕ) where
       h.w_after ∙ ap (λ (x : List ℕ). x ++ drop h.n out) same ∙ sym h.v_after
 
   -- From here on one outcome of the call.
-  module _ {answer : Answer (Option ℕ)} {left outAfter : List ℕ} (call : ShortestCall s scratch out answer left outAfter) where
-    pub shortest_does : Does answer left outAfter
-    shortest_does = by (lent scratch_size s scratch (ShowsLog (parse s) out answer outAfter) (Refuses out answer outAfter)) where
-      by : Lent scratch_size s scratch (ShowsLog (parse s) out answer outAfter) (Refuses out answer outAfter) → Does answer left outAfter
+  module _ {answer : Answer (Option ℕ)} {left out_after : List ℕ} (call : ShortestCall s scratch out answer left out_after) where
+    pub shortest_does : Does answer left out_after
+    shortest_does = by (lent scratch_size s scratch (ShowsLog (parse s) out answer out_after) (Refuses out answer out_after)) where
+      by : Lent scratch_size s scratch (ShowsLog (parse s) out answer out_after) (Refuses out answer out_after) → Does answer left out_after
       by (is_no_table n e) =
-          let r : Refuses out answer outAfter (verdict s) = subst (λ X. X) e call.answers in
+          let r : Refuses out answer out_after (verdict s) = subst (λ X. X) e call.answers in
           no_table n r.number (call.leaves ∙ on_no_table scratch_size s scratch (cleared scratch) (λ j. scratch) n) r.kept
       by (is_short z l e) =
-          let r : Refuses out answer outAfter 7 = subst (λ X. X) e call.answers in
+          let r : Refuses out answer out_after 7 = subst (λ X. X) e call.answers in
           no_scratch z l r.number (call.leaves ∙ on_short scratch_size s scratch (cleared scratch) (λ j. scratch) z l) r.kept
       by (is_lent z l e) = shows z l (subst (λ X. X) e call.answers) (call.leaves ∙ on_lent scratch_size s scratch (cleared scratch) (λ j. scratch) z l)
 
     -- The answer, as a call that is lent scratch has it; and what a table with enough scratch is answered with.
     answer_lent : with_scratch s scratch answer refused ≡ answer
     answer_lent = by shortest_does where
-      by : Does answer left outAfter → with_scratch s scratch answer refused ≡ answer
+      by : Does answer left out_after → with_scratch s scratch answer refused ≡ answer
       by (no_table n e c o) = on_no_table scratch_size s scratch answer refused n ∙ sym e
       by (no_scratch z l e c o) = on_short scratch_size s scratch answer refused z l ∙ sym e
       by (shows z l h c) = on_lent scratch_size s scratch answer refused z l
 
-    shown_here : verdict s ≡ 0 → scratch_size ≤ length scratch → ShowsLog (parse s) out answer outAfter
-    shown_here good l = subst (λ X. X) (on_lent scratch_size s scratch (ShowsLog (parse s) out answer outAfter) (Refuses out answer outAfter) good l) call.answers
+    shown_here : verdict s ≡ 0 → scratch_size ≤ length scratch → ShowsLog (parse s) out answer out_after
+    shown_here good l = subst (λ X. X) (on_lent scratch_size s scratch (ShowsLog (parse s) out answer out_after) (Refuses out answer out_after) good l) call.answers
 
     says_iff : verdict s ≡ 0 → scratch_size ≤ length scratch → (b : Answer (Option ℕ)) → (answer ≡ b) ↔ Says (parse s) out b
     says_iff good l = shows_iff (parse s) out (shown_here good l)
@@ -188,29 +188,29 @@ module _ (s scratch out : List ℕ) where
         )
 
     -- Refused, or answered that there is no log, the output holds what it held.
-    shortest_kept : ((n : ℕ) → answer ≡ answered (some n) → ⊥) → outAfter ≡ out
+    shortest_kept : ((n : ℕ) → answer ≡ answered (some n) → ⊥) → out_after ≡ out
     shortest_kept no-log = by shortest_does where
-      by : Does answer left outAfter → outAfter ≡ out
+      by : Does answer left out_after → out_after ≡ out
       by (no_table n e c o) = o
       by (no_scratch z l e c o) = o
       by (shows z l h c) = shows_kept (parse s) out h no-log
 
-    pub shortest_refused : (k : ℕ) → answer ≡ refused k → outAfter ≡ out
+    pub shortest_refused : (k : ℕ) → answer ≡ refused k → out_after ≡ out
     shortest_refused k e = shortest_kept (λ n d. let o : ◌≡◌ {A = ℕ} 0 1 = cc in omega arith)
 
-    pub shortest_no_log : answer ≡ answered none → outAfter ≡ out
+    pub shortest_no_log : answer ≡ answered none → out_after ≡ out
     shortest_no_log e = shortest_kept (λ n d. let o : ◌≡◌ {A = ℕ} 0 1 = cc in omega arith)
 
-    pub shortest_shown : (n : ℕ) → answer ≡ answered (some n) → ShownIn n outAfter
+    pub shortest_shown : (n : ℕ) → answer ≡ answered (some n) → ShownIn n out_after
     shortest_shown n e = by shortest_does where
-      never : {k : ℕ} → answer ≡ refused k → ShownIn n outAfter
+      never : {k : ℕ} → answer ≡ refused k → ShownIn n out_after
       never d = absurd (let o : ◌≡◌ {A = ℕ} 0 1 = cc in omega arith)
 
       written : verdict s ≡ 0 → scratch_size ≤ length scratch → {a : Answer (Option ℕ)} {o : List ℕ} → ShowsLog (parse s) out a o → a ≡ answered (some n) → ShownIn n o
       written z l (shows_none h) d = absurd (let o : ◌≡◌ {A = ℕ} 0 1 = cc in omega arith)
       written z l (shows_long a m) d = absurd (let o : ◌≡◌ {A = ℕ} 0 1 = cc in omega arith)
       written z l (shows_no_room m k g) d = absurd (let o : ◌≡◌ {A = ℕ} 0 1 = cc in omega arith)
-      written z l (shows_log {n = k} {w} {outAfter = o} a long shorter m g after) d =
+      written z l (shows_log {n = k} {w} {out_after = o} a long shorter m g after) d =
           let same : k ≡ n = cc in
           let front : take n o ≡ w = ap (take n) after ∙ take_at w (drop k out) n (long ∙ same) in
           record {
@@ -222,7 +222,7 @@ module _ (s scratch out : List ℕ) where
             after = after ∙ rw (same, front);
           }
 
-      by : Does answer left outAfter → ShownIn n outAfter
+      by : Does answer left out_after → ShownIn n out_after
       by (no_table m d c o) = never d
       by (no_scratch z l d c o) = never d
       by (shows z l h c) = written z l h e

@@ -18,15 +18,15 @@ pub data ShowsLog (t : Table) (out : List ℕ) : Answer (Option ℕ) → List �
   shows_none : ((w : List ℕ) → Accepts (automaton t) w → ⊥) → ShowsLog t out (answered none) out
   shows_long : {w : List ℕ} → Accepts (automaton t) w → ((v : List ℕ) → Accepts (automaton t) v → most_shown < length v) → ShowsLog t out (refused 10) out
   shows_no_room : {n : ℕ} → Shortest (automaton t) n → n ≤ most_shown → length out < n → ShowsLog t out (refused 9) out
-  shows_log : {n : ℕ} {w outAfter : List ℕ} → Accepts (automaton t) w → length w ≡ n → ((v : List ℕ) → Accepts (automaton t) v → n ≤ length v)
-      → n ≤ most_shown → n ≤ length out → outAfter ≡ w ++ drop n out → ShowsLog t out (answered (some n)) outAfter
+  shows_log : {n : ℕ} {w out_after : List ℕ} → Accepts (automaton t) w → length w ≡ n → ((v : List ℕ) → Accepts (automaton t) v → n ≤ length v)
+      → n ≤ most_shown → n ≤ length out → out_after ≡ w ++ drop n out → ShowsLog t out (answered (some n)) out_after
 
 -- A refusal that leaves the output.
-pub record Refuses (out : List ℕ) (answer : Answer (Option ℕ)) (outAfter : List ℕ) (k : ℕ) : Type 0 where
+pub record Refuses (out : List ℕ) (answer : Answer (Option ℕ)) (out_after : List ℕ) (k : ℕ) : Type 0 where
   pub number : answer ≡ refused k
-  pub kept : outAfter ≡ out
+  pub kept : out_after ≡ out
 
 -- The call: 1 to 6 for the bytes, 7 for scratch, then what the table says. `scratch_after` says what scratch holds then.
-pub record ShortestCall (s scratch out : List ℕ) (answer : Answer (Option ℕ)) (scratchLeft outAfter : List ℕ) : Type 0 where
-  pub answers : with_scratch s scratch (ShowsLog (parse s) out answer outAfter) (Refuses out answer outAfter)
-  pub leaves : scratchLeft ≡ scratch_after s scratch
+pub record ShortestCall (s scratch out : List ℕ) (answer : Answer (Option ℕ)) (scratch_left out_after : List ℕ) : Type 0 where
+  pub answers : with_scratch s scratch (ShowsLog (parse s) out answer out_after) (Refuses out answer out_after)
+  pub leaves : scratch_left ≡ scratch_after s scratch

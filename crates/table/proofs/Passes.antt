@@ -47,7 +47,7 @@ bound s a = by (ltb a (letters_field s)) refl (eqb (kind_byte s a) 0) refl where
   by true e true f = plain_letter (ltb-true _ _ e) (eqb-true _ _ f) (rw (e, f))
   by true e false f = marked_letter (ltb-true _ _ e) (eqb-false _ _ f) (rw (e, f))
 
--- What each test says where it holds. The way back is in verdict-of-passes, but for the one test that is not plain.
+-- What each test says where it holds. The way back is in `verdict_of_passes`, but for the one test that is not plain.
 module _ (s : List ℕ) where
   pub whole_facts : whole? s ≡ true → (8 ≤ length s) × (length s ≡ length_field s + 2)
   unfolding whole?

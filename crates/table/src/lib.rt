@@ -16,7 +16,7 @@ ghost use Rattle.table.specs.Refusals.{whole?, small?, sized?, capped?, lists?, 
 pub mod refusal;
 
 // The counts of a table.
-#[derive(Drop)]
+#[derive(Clone, Copy)]
 pub struct Table {
     pub states: usize,
     pub letters: usize,
@@ -58,7 +58,7 @@ pub const KINDS_PLACE: usize = 8;
 // The version of a table that is accepted, and of one that is made.
 pub const VERSION: u8 = 1;
 
-#[derive(Drop)]
+#[derive(Clone, Copy)]
 pub enum Checked {
     Refused(u8),
     Good(Table),
@@ -72,13 +72,13 @@ pub struct Move {
     pub to: u8,
 }
 
-#[derive(Drop)]
+#[derive(Clone, Copy)]
 pub enum Got {
     Move(Move),
     NoMove,
 }
 
-#[derive(Drop)]
+#[derive(Clone, Copy)]
 pub enum KindAt {
     Plain,
     Open,
@@ -86,7 +86,7 @@ pub enum KindAt {
     NoLetter,
 }
 
-#[derive(Drop)]
+#[derive(Clone, Copy)]
 pub enum Written {
     Refused(u8),
     Bytes(usize),

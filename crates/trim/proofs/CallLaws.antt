@@ -87,11 +87,11 @@ module _ (t : Table) where
 -- What the contract says of an answer, of scratch and of output afterwards, and the part of it that is about a trimmed table; and how the code comes to
 -- them, refusing or not.
 abbrev pub Meets : List ℕ → List ℕ → List ℕ → Answer ℕ → List ℕ → List ℕ → Type 0
-Meets s scratch out answer after outAfter =
-    (answer ≡ (trim_call s scratch out).answer) × ((after ≡ (trim_call s scratch out).scratch) × (outAfter ≡ (trim_call s scratch out).out))
+Meets s scratch out answer after out_after =
+    (answer ≡ (trim_call s scratch out).answer) × ((after ≡ (trim_call s scratch out).scratch) × (out_after ≡ (trim_call s scratch out).out))
 
 abbrev pub MeetsWritten : Table → List ℕ → Answer ℕ → List ℕ → Type 0
-MeetsWritten t out answer outAfter = (answer ≡ written_answer t out) × (outAfter ≡ written_out t out)
+MeetsWritten t out answer out_after = (answer ≡ written_answer t out) × (out_after ≡ written_out t out)
 
 module _ (t : Table) (out : List ℕ) where
   pub meets_large : within? t ≡ false → MeetsWritten t out (refused 8) out
@@ -100,8 +100,8 @@ module _ (t : Table) (out : List ℕ) where
   pub meets_no_room : within? t ≡ true → length out < length (unparse t) → MeetsWritten t out (refused 9) out
   meets_no_room e l = rw (e, lt-ltb _ _ l) (refl, refl)
 
-  pub meets_bytes : {n : ℕ} {outAfter : List ℕ} → within? t ≡ true → length (unparse t) ≤ length out
-      → n ≡ length (unparse t) → outAfter ≡ unparse t ++ drop (length (unparse t)) out → MeetsWritten t out (answered n) outAfter
+  pub meets_bytes : {n : ℕ} {out_after : List ℕ} → within? t ≡ true → length (unparse t) ≤ length out
+      → n ≡ length (unparse t) → out_after ≡ unparse t ++ drop (length (unparse t)) out → MeetsWritten t out (answered n) out_after
   meets_bytes e l d o = rw (e, le-ltb _ _ l) (ap answered d, o)
 
 module _ (s scratch out : List ℕ) where
@@ -117,8 +117,8 @@ module _ (s scratch out : List ℕ) where
   pub meets_short : verdict s ≡ 0 → length scratch < scratch_size → Meets s scratch out (refused 7) scratch out
   meets_short good l = meets_refused (λ X x f. on_short scratch_size s scratch x f good l)
 
-  pub meets_written : {answer : Answer ℕ} {after outAfter : List ℕ} → verdict s ≡ 0 → scratch_size ≤ length scratch
-      → MeetsWritten (trim_table (parse s)) out answer outAfter → after ≡ cleared scratch → Meets s scratch out answer after outAfter
+  pub meets_written : {answer : Answer ℕ} {after out_after : List ℕ} → verdict s ≡ 0 → scratch_size ≤ length scratch
+      → MeetsWritten (trim_table (parse s)) out answer out_after → after ≡ cleared scratch → Meets s scratch out answer after out_after
   meets_written good l w e = (
     w.0 ∙ sym (on_lent scratch_size s scratch (written_answer (trim_table (parse s)) out) refused good l),
     (

@@ -34,7 +34,7 @@ pub struct Trios {
 
 // Of trimmed marks: how many, and for each the states that an open move by it leads to from where its level begins, and those from which a close move
 // by it leads to where the end of its level can be reached. With more than 64 marks nobody asks for these.
-#[derive(Drop)]
+#[derive(Clone, Copy)]
 pub struct Ways {
     pub count: usize,
     pub opens: [u64; 64],
@@ -44,7 +44,7 @@ pub struct Ways {
 // What the trimmed moves are listed by. Of trimmed states: how many, and the original's state of each. Of an original's state: the trimmed states that
 // stand for it. Of a trimmed state: the states of its level, the marks of its level, and the marks that it can be the end of an inner level under.
 // Of a trimmed mark: the original's mark, the states that begin an inner level under it, and the states of its own level, the outer one.
-#[derive(Drop)]
+#[derive(Clone, Copy)]
 pub struct Plan {
     pub count: usize,
     pub state: [usize; 64],

@@ -119,8 +119,8 @@ fn show(rt: &impl Print, label: &[u8], table: &[u8]) -> io::Result<()> {
 fn show_lent(rt: &impl Print, label: &[u8], table: &[u8], scratch: &mut [u16]) -> io::Result<()> {
     lines::label(rt, label)?;
     let answer = nesting::pairs_and_levels(table, scratch);
-    let found = answer.found;
     show_answer(rt, answer)?;
+    let found = answer.found;
     lent::show_scratch(rt, cleared(found), scratch)
 }
 
