@@ -111,8 +111,12 @@ module _ (bytes : List ℕ) (low : AreBytes bytes) where
   pub begin_keeps : (s : List ℕ) → (exported_begin s bytes).number < kind_size → (exported_begin s bytes).bytes ≡ bytes
   begin_keeps s = kept_refused s (begin_call s) (begin_refused s (lent_words bytes))
 
+  letter_kept : (s : List ℕ) (a : ℕ) → (on_bytes s bytes (λ words. letter_call s words a)).number < kind_size → (on_bytes s bytes (λ words. letter_call s words a)).bytes ≡ bytes
+  letter_kept s a = kept_refused s (λ words. letter_call s words a) (letter_refused s (lent_words bytes) a)
+
+  -- Whichever letter the call is asked of, this holds.
   pub letter_keeps : (s : List ℕ) (a : ℕ) → (exported_letter s bytes a).number < kind_size → (exported_letter s bytes a).bytes ≡ bytes
-  letter_keeps s a = kept_refused s (λ words. letter_call s words a) (letter_refused s (lent_words bytes) a)
+  letter_keeps s a = letter_kept s _
 
   pub finish_leaves : (s : List ℕ) → (exported_finish s bytes).bytes ≡ bytes
   finish_leaves s = kept s (finish_call s) (λ l. finish_keeps s (lent_words bytes))
@@ -160,5 +164,8 @@ module _ (s bytes : List ℕ) where
   pub begin_past : drop state_bytes (exported_begin s bytes).bytes ≡ drop state_bytes bytes
   begin_past = past (begin_call s) (begin_further s (lent_words bytes)).1
 
+  letter_further_past : (a : ℕ) → drop state_bytes (on_bytes s bytes (λ words. letter_call s words a)).bytes ≡ drop state_bytes bytes
+  letter_further_past a = past (λ words. letter_call s words a) (letter_further s (lent_words bytes) a).1
+
   pub letter_past : (a : ℕ) → drop state_bytes (exported_letter s bytes a).bytes ≡ drop state_bytes bytes
-  letter_past a = past (λ words. letter_call s words a) (letter_further s (lent_words bytes) a).1
+  letter_past a = letter_further_past _

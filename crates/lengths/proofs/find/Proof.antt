@@ -1,5 +1,6 @@
 use native.Mathlib.Omega.{arith}
-use Prim.Native.Nat.{◌<◌, ◌≤◌}
+use Prim.Native.Nat.{ℕ, ◌<◌, ◌≤◌}
+use mathlib.Core.Path.{◌≡◌}
 use lib.ListN.{length}
 use Rattle.table.specs.Layout.{parse, Storable}
 use Rattle.table.proofs.Tables.{good_storable}
@@ -27,11 +28,11 @@ kept : (c : tie.At-loop-due invariant-loop-due decreases-loop-due) → KeptFrom 
 kept c = kept_then c.start.ensures.1 c.loop-due.invariant.1
 
 -- The row that is due.
-found : (c : tie.Else-p-states invariant-loop-due decreases-loop-due) → c.soonest_row-p.result < c.args.states
-found c = let other = c.if-p-states.false in omega (arith, c.soonest_row-p.ensures.low)
+found : {p n : ℕ} → p ≤ n → (p ≡ n → ⊥) → p < n
+found l other = omega (arith, l, other)
 
-low : (c : tie.Else-p-states invariant-loop-due decreases-loop-due) → c.soonest_row-p.result < 64
-low c = omega (arith, found c, few c.before.before.before.before)
+low : {p n : ℕ} → p ≤ n → (p ≡ n → ⊥) → n ≤ 64 → p < 64
+low l other few = omega (arith, l, other, few)
 
 long : (c : tie.At-loop-due invariant-loop-due decreases-loop-due) → 4096 ≤ length c.loop-due.scratch
 long c = omega (arith, (kept c).long, c.requires.0.1.1)
@@ -47,15 +48,15 @@ find_spec =
     (λ c κs. few c.before.before)
     (λ c. (kept c.before.before.before.before).long)
     (λ c.
-    (searched_all (is c.before.before.before.before) c.requires.0.1.0 c.soonest_row-p.ensures c.if-p-states.true c.loop-due.invariant.0, kept c.before.before.before.before))
+    (searched_all (is c.before.before.before.before) c.requires.0.1.0 c.soonest_row-p.ensures (search) c.loop-due.invariant.0, kept c.before.before.before.before))
     (λ c κs.
-    (low c.before.before, (long c.before.before.before.before.before.before, c.soonest_row-p.ensures.due_here (found c.before.before))))
+    (low c.soonest_row-p.ensures.low (search) (few c.before.before.before.before.before.before), (long c.before.before.before.before.before.before, c.soonest_row-p.ensures.due_here (found c.soonest_row-p.ensures.low (search)))))
     (λ c κs.
     let p = c.requires in
-    ((p.0.0, (few c.before.before.before.before.before.before.before.before.before.before, (low c.before.before.before.before.before.before, (c.take_from-q.ensures.low, long c.before.before.before.before.before.before.before.before.before.before)))), p.1))
+    ((p.0.0, (few c.before.before.before.before.before.before.before.before.before.before, (low c.soonest_row-p.ensures.low (search) (few c.before.before.before.before.before.before.before.before.before.before), (c.take_from-q.ensures.low, long c.before.before.before.before.before.before.before.before.before.before)))), p.1))
     (λ c.
-    omega (arith, work_taken c.take_from-q.ensures c.loop-due.scratch (low c.before.before.before.before.before.before.before.before.before), work_lowered c.settle.ensures.lowered))
+    omega (arith, work_taken c.take_from-q.ensures c.loop-due.scratch (low c.soonest_row-p.ensures.low (search) (few c.before.before.before.before.before.before.before.before.before.before.before.before.before)), work_lowered c.settle.ensures.lowered))
     (λ c. (
-      searched_settled (is c.before.before.before.before.before.before.before.before.before.before.before.before.before) c.requires.0.1.0 (found c.before.before.before.before.before.before.before.before.before) c.loop-due.invariant.0 c.take_from-q.ensures c.settle.ensures,
+      searched_settled (is c.before.before.before.before.before.before.before.before.before.before.before.before.before) c.requires.0.1.0 (found c.soonest_row-p.ensures.low (search)) c.loop-due.invariant.0 c.take_from-q.ensures c.settle.ensures,
       kept_then c.loop-due.invariant.1 c.settle.ensures.lowered.kept,
     )))

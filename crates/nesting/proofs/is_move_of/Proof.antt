@@ -13,11 +13,11 @@ is_move_of_spec =
     (λ c. omega (arith, c.shared_slice_known-3-1.given (c.args.i + 2)))
     (λ c. omega arith)
     (λ c. omega arith)
-    (λ c. omega (arith, c.shared_slice_known-then-here-mark-1.given (c.args.i + 1)))
+    (λ c. omega (arith, c.shared_slice_known-3-1.given (c.args.i + 1)))
     (λ c κs. omega arith)
     (λ c.
     let a = c.args in
-    mark_same a.table.now a.part.now a.i a.kind c.if-here-mark.true c.is_of_kind.ensures)
+    mark_same a.table.now a.part.now a.i a.kind (search) c.is_of_kind.ensures)
     (λ c.
     let a = c.args in
-    mark_other a.table.now a.part.now a.i a.kind c.if-here-mark.false))
+    mark_other a.table.now a.part.now a.i a.kind (search)))

@@ -54,13 +54,13 @@ linked_spec =
     (λ c. omega (arith, low c.before.before.before.before.before.before))
     (λ c. omega (arith, few c.before.before.before.before.before.before))
     (λ c. omega arith)
-    (λ c. omega (arith, c.shared_slice_known-then-letter-opener-3-1.given (4 * c.loop-k.k + 2)))
+    (λ c. omega (arith, c.shared_slice_known-in-loop-k-1.given (4 * c.loop-k.k + 2)))
     (λ c κs. (c.requires.0.0, c.requires.1))
     (λ c. walked_further (chained c.before.before.before.before.before.before.before.before.before.before.before.before) c.loop-k-test.true)
     (λ c.
     gathered_more (chained c.before.before.before.before.before.before.before.before.before.before.before.before) c.loop-k-test.true c.loop-k.invariant
-    (links_here c.if-letter-opener.true c.closed-y.ensures))
+    (links_here (search) c.closed-y.ensures))
     (λ c. walked_further (chained c.before.before.before.before.before.before.before.before) c.loop-k-test.true)
     (λ c.
-    gathered_skip (chained c.before.before.before.before.before.before.before.before) c.loop-k-test.true c.loop-k.invariant (links_other c.if-letter-opener.false))
+    gathered_skip (chained c.before.before.before.before.before.before.before.before) c.loop-k-test.true c.loop-k.invariant (links_other (search)))
     (λ c. linked_all _ (good c.before.before.before.before) c.checked_moves-part.ensures c.loop-k-test.false c.loop-k.invariant))

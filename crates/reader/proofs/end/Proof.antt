@@ -25,7 +25,7 @@ tested : (c : tie.After-is_accepting) → let a = c.args in
 tested c =
     let a = c.args in
     let pre = c.requires in
-    end_flat _ _ _ (good_storable a.table.now pre.0.0).states pre.1 c.if-head.false c.if-head-ne0.false c.is_accepting.result
+    end_flat _ _ _ (good_storable a.table.now pre.0.0).states pre.1 c.if-head.false (search) c.is_accepting.result
     (subst (λ (r : List ℕ). T c.is_accepting.result ↔ FinishedBlock (automaton (parse a.table.now)) (Holds r)) (lent_rows a.state.now 0 c.place-top.ensures.0)
     c.is_accepting.ensures)
 
@@ -34,7 +34,7 @@ end_spec =
     tie.close
     (tie.spec
     (λ c. ap answered (sym (end_stopped _ _ _ c.if-head.true)))
-    (λ c. ap answered (sym (end_deep _ _ _ c.if-head.false c.if-head-ne0.true)))
+    (λ c. ap answered (sym (end_deep _ _ _ c.if-head.false (search))))
     (λ c κs. omega arith)
     (λ c. omega (arith, state_size_lem))
     (λ c. omega (arith, state_size_lem))

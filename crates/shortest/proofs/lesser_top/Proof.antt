@@ -1,6 +1,5 @@
 use native.Mathlib.Omega.{arith}
 use Prim.Native.Nat.{◌-◌}
-use mathlib.Core.Logic.{⊎_elim}
 use Rattle.table.specs.Layout.{parse}
 use Rattle.shortest.specs.Steps.{LesserTop}
 use Rattle.shortest.proofs.Tops.{lesser_none, lesser_here, lesser_past, lesser_all}
@@ -28,5 +27,5 @@ lesser_top_spec =
     let h = c.loop-f.invariant in
     let v = c.length_at-moves.ensures.0 in
     let g = c.is_final.ensures in
-    ⊎_elim (λ w. rw w.top-is (lesser_here h v g w.if-moves-top.true)) (λ w. rw w.top-is (lesser_past h v g w.if-moves-top.false)) c.if-moves-top.branch-raw)
+    grind (arith, lesser_here h v g, lesser_past h v g))
     (λ c. lesser_all (omega arith) c.loop-f.invariant))

@@ -1,7 +1,7 @@
 use native.Mathlib.Omega.{arith}
-use Prim.Native.Nat.{◌<◌}
+use Prim.Native.Nat.{ℕ, ◌<◌, ◌≤◌}
 use mathlib.Core.Logic.{inl, inr}
-use mathlib.Core.Path.{refl}
+use mathlib.Core.Path.{◌≡◌, refl, sym, ◌∙◌}
 use Rattle.vpa.specs.TableOnDisk.{state_count, IsTable}
 use Rattle.table.specs.Layout.{parse}
 use Rattle.table.proofs.Tables.{good_storable, good_table}
@@ -26,8 +26,8 @@ found c =
     (good_table _ p.0, c.find.ensures.0, least_all (omega (arith, p.1.0)) c.least_top-top.ensures, kept_more (omega arith) c.find.ensures.1)
 
 -- A length below the bound, where neither answer was given.
-below : (c : tie.Else-top-eq-OVER) → c.least_top-top.result.moves < over
-below c = omega (arith, over_is, c.if-top-gt-OVER.false, c.if-top-eq-OVER.false)
+below : {n : ℕ} → n ≤ 4097 → (n ≡ 4097 → ⊥) → n < over
+below l d = omega (arith, over_is, l, d)
 
 pub shortest_of_spec : {M : Type 1} → statement M
 shortest_of_spec =
@@ -44,16 +44,16 @@ shortest_of_spec =
     (λ c. omega arith)
     (λ c. let w = found c.before.before in (shows_no_log w.0 w.1 w.2 _ (omega (arith, over_is, c.if-top-gt-OVER.true)), w.3))
     (λ c. omega arith)
-    (λ c. let w = found c.before.before.before.before in (shows_too_long w.0 w.1 w.2 _ (omega (arith, over_is, c.if-top-eq-OVER.true)), w.3))
+    (λ c. let w = found c.before.before.before.before in (shows_too_long w.0 w.1 w.2 _ ((search) ∙ sym over_is), w.3))
     (λ c. omega arith)
-    (λ c. let w = found c.before.before.before.before.before.before in (shows_past w.0 w.1 w.2 _ (below c.before.before) c.if-out-top.true, w.3))
+    (λ c. let w = found c.before.before.before.before.before.before in (shows_past w.0 w.1 w.2 _ (below c.if-top-gt-OVER.false (search)) c.if-out-top.true, w.3))
     (λ c κs.
     let p = c.requires in (
       (p.0, (p.1.0, omega (arith, p.1.1, c.find.ensures.1.long))),
-      ((c.chain-from.ensures, c.chain-to.ensures), (c.find.ensures.0, (c.least_top-top.ensures, (below c.before.before.before.before.before.before, c.if-out-top.false)))),
+      ((c.chain-from.ensures, c.chain-to.ensures), (c.find.ensures.0, (c.least_top-top.ensures, (below c.if-top-gt-OVER.false (search), c.if-out-top.false)))),
     ))
     (λ c. omega arith)
     (λ c. omega arith)
     (λ c.
     let w = found c.before.before.before.before.before.before.before.before.before.before.before.before.before.before.before in
-    (shows_written w.0 w.1 w.2 _ (below c.before.before.before.before.before.before.before.before.before.before.before) c.if-out-top.false c.write_log.ensures.0, kept_then w.3 c.write_log.ensures.1)))
+    (shows_written w.0 w.1 w.2 _ (below c.if-top-gt-OVER.false (search)) c.if-out-top.false c.write_log.ensures.0, kept_then w.3 c.write_log.ensures.1)))

@@ -26,15 +26,15 @@ trim_checked_spec =
     (λ c. omega arith)
     (λ c.
     let h = listed c.before.before.before in
-    let m = many_states _ _ h (omega (arith, c.if-count-gt-STATES.true)) in
+    let m = many_states _ _ h (grind arith) in
     (m.0, (m.1, kept_more (omega arith) h.kept)))
     (λ c κs.
-    (omega (arith, c.if-count-gt-STATES.false), omega (arith, c.list_states-count.ensures.kept.long, c.requires.1.1)))
+    (grind arith, omega (arith, c.list_states-count.ensures.kept.long, c.requires.1.1)))
     (λ c κs.
     let p = c.requires in
     let h = listed c.before.before.before.before.before.before in (
       (p.0, (p.1.0, omega (arith, appended_long h, p.1.1))),
-      ((c.balanced_pairs-balanced.ensures, c.live_levels-live.ensures), column_trios _ h c.if-count-gt-STATES.false c.read_back-states.ensures),
+      ((c.balanced_pairs-balanced.ensures, c.live_levels-live.ensures), column_trios _ h (grind arith) c.read_back-states.ensures),
     ))
     (λ c. omega arith)
     (λ c. omega arith)

@@ -25,5 +25,5 @@ after_spec =
     tie.close
     (tie.spec
     (λ c. sum_fits w32 (balance_fits c) (entry c).ranges.added (entry c).requires)
-    (λ c. let d = c.before.before.before in falls (sum d) (to_z-of_z w32 _ (lowest_fits d)) c.if-balance-self.true)
-    (λ c. let d = c.before.before.before.before in stays (sum d) (to_z-of_z w32 _ (lowest_fits d)) c.if-balance-self.false))
+    (λ c. let d = c.before.before.before in falls (sum d) (to_z-of_z w32 _ (lowest_fits d)) (search))
+    (λ c. let d = c.before.before.before.before in stays (sum d) (to_z-of_z w32 _ (lowest_fits d)) (search)))
