@@ -15,8 +15,8 @@ import sys
 
 WORD = r"[^\s(){}.;,@\"«»`]+"
 DECLARED = re.compile(rf"^\s*((?:pub |abbrev |unfoldable |data |record )*)((?:{WORD}[ ]+)*?{WORD})((?:[ ]+[({{][^(){{}}]*[)}}])*)[ ]+:(?:\s|$)")
-# The toolchain's own words, which proofs declare.
-MADE = {"invariant-loop", "decreases-loop"}
+# The toolchain's own words, which proofs declare, and what their names begin with.
+MADE = ("invariant-loop", "decreases-loop")
 # Names that would fall together with others, and what they are called instead: a lemma that would have its function's name gets `_lem`.
 LEMMAS = "begin-state block-place head_bytes heard-by in-range length-in letter-on longest-log mark-numbers marked-rows row_count scratch-size shown_by state-rows state-size states-of trimmed-bytes"
 OTHERWISE = {n: n.replace("-", "_") + "_lem" for n in LEMMAS.split()} | {"bit-and": "bit_of_and", "bit-or": "bit_of_or", "bit-xor": "bit_of_xor"}
@@ -94,7 +94,7 @@ def turned_rust(text, table):
 def main(words):
     paths = sources()
     names = declared(paths)
-    table = {n: OTHERWISE.get(n, snake(n)) for n in names if n in OTHERWISE or is_odd(n) and n not in MADE}
+    table = {n: OTHERWISE.get(n, snake(n)) for n in names if n in OTHERWISE or is_odd(n) and not n.startswith(MADE)}
     if not any(is_odd(n) for n in table):
         print("every name is in this spelling already")
         return 0
