@@ -19,16 +19,16 @@ use Rattle.vpa.specs.TableOnDisk.{letter_count, kind_in, automaton}
 use Rattle.vpa.proofs.Balances.{balance_counts, balance_within, lowest_within, between, lowest_iff, lowest_at_most, accepted_balance}
 use Rattle.vpa.proofs.Lists.{any_elim}
 use Rattle.vpa.proofs.TableMoves.{accepted_letters}
-use Rattle.table.specs.Answers.{Answer, refused, answered}
+use Rattle.std.specs.Prelude.{Result}
+use Rattle.table.specs.declared.refusal.Refusal.{Refusal}
+use Rattle.table.specs.Answers.{refused, answered}
 use Rattle.table.specs.Bytes.{AreBytes}
 use Rattle.table.specs.Layout.{parse}
 use Rattle.table.specs.Logs.{longest_log}
 use Rattle.table.specs.Refusals.{verdict}
-use Rattle.table.proofs.CallLaws.{given_verdict, on_good, on_bad, once}
+use Rattle.table.proofs.CallLaws.{given_verdict, on_good, on_bad, told_once}
 use Rattle.table.proofs.Tables.{good_table}
 use Rattle.balance.specs.declared.Tally.{Tally}
-use Rattle.balance.specs.declared.Weighed.{Weighed}
-use Rattle.balance.specs.declared.Weighed.TheVariants as weighed
 use Rattle.balance.specs.Answers.{weighed_as}
 use Rattle.balance.specs.Calls.{tally_of, past?, letters_weighed, balance_call, BalanceReason, no_table, too_long, past_letter}
 use Rattle.balance.proofs.Weighing.{past_refused, none_past_below}
@@ -122,12 +122,5 @@ module _ (s log : List ℕ) where
     by (weighs_all g k below d) = let b = accepted_balance (automaton (parse s)) h in d ∙ ap answered (λ i. record { balance = b.0 i; lowest = b.1 i })
 
   -- Two answers are one.
-  pub balance_once : (r q : Weighed) → weighed_as r ≡ balance_call s log → weighed_as q ≡ balance_call s log → r ≡ q
-  balance_once r q = once weighed_as back back_as r q where
-    back : Answer Tally → Weighed
-    back (refused k) = weighed.Refused k
-    back (answered x) = weighed.Tally x
-
-    back_as : (w : Weighed) → back (weighed_as w) ≡ w
-    back_as (weighed.Refused k) = refl
-    back_as (weighed.Tally x) = refl
+  pub balance_once : (r q : Result Tally Refusal) → weighed_as r ≡ balance_call s log → weighed_as q ≡ balance_call s log → r ≡ q
+  balance_once r q = told_once (λ x. x) (λ x. x) (λ x. refl) r q

@@ -14,19 +14,13 @@ ghost use Rattle.table.specs.Refusals.{verdict};
 ghost use Rattle.balance.specs.Answers.{weighed_as};
 ghost use Rattle.balance.specs.Calls.{letters_weighed, balance_call};
 
-use table::{Checked, KindAt, Table, refusal};
+use table::{Kind, Refusal, Table};
 
 // The balance of the letters so far, and the lowest of all prefixes.
 #[derive(Clone, Copy)]
 pub struct Tally {
     pub balance: i32,
     pub lowest: i32,
-}
-
-#[derive(Clone, Copy)]
-pub enum Weighed {
-    Refused(u8),
-    Tally(Tally),
 }
 
 impl Tally {
@@ -36,36 +30,28 @@ impl Tally {
         ensures { result ≡ record { balance = self.balance +ℤ added; lowest = lesser self.lowest (self.balance +ℤ added) } }
     {
         let balance = self.balance + added;
-        let lowest = if balance < self.lowest {
-            balance
-        } else {
-            self.lowest
-        };
         Tally {
-            balance: balance,
-            lowest: lowest,
+            balance,
+            lowest: self.lowest.min(balance),
         }
     }
 }
 
 // The balance of a log and the lowest of its prefixes; or the refusal for bytes that are no table, then for a log that is too long, then for a letter that the table
 // does not have. The moves do not matter: a log that no run is on has a balance too. (`balance_told`, `lowest_told`, `balance_refused_iff` of proofs/CallLaws.)
-pub fn balance(table: &[u8], log: &[u8]) -> Weighed
+pub fn balance(table: &[u8], log: &[u8]) -> Result<Tally, Refusal>
     ensures { weighed_as result ≡ balance_call table.now log.now }
 {
-    match table::check(table) {
-        Checked::Refused(number) => Weighed::Refused(number),
-        Checked::Good(counts) => {
-            if log.len() > table::LONGEST_LOG {
-                return Weighed::Refused(refusal::LETTERS);
-            }
-            weigh(table, counts.letters, log)
-        }
+    let counts = table::check(table)?;
+    let is_too_long = log.len() > table::LONGEST_LOG;
+    if is_too_long {
+        return Err(Refusal::Letters);
     }
+    weigh(table, counts.letters, log)
 }
 
 // The letters' own part of the answer. The kinds are asked for once, for every number that a letter can have, so that a letter of the log costs one look at them.
-fn weigh(table: &[u8], letters: usize, log: &[u8]) -> Weighed
+fn weigh(table: &[u8], letters: usize, log: &[u8]) -> Result<Tally, Refusal>
     requires { (verdict table.now ≡ 0) × ((letters ≡ letter_count (parse table.now)) × (length log.now ≤ longest_log)) }
     ensures { weighed_as result ≡ letters_weighed (parse table.now) log.now }
 {
@@ -74,25 +60,21 @@ fn weigh(table: &[u8], letters: usize, log: &[u8]) -> Weighed
         balance: 0,
         lowest: 0,
     };
-    for i in 0..log.len() {
-        let letter = log[i] as usize;
+    for &byte in log {
+        let letter = usize::from(byte);
         if letter >= letters {
-            return Weighed::Refused(refusal::LETTER);
+            return Err(Refusal::Letter);
         }
         tally = tally.after(added[letter]);
     }
-    Weighed::Tally(tally)
+    Ok(tally)
 }
 
 // What each letter adds.
 fn changes(table: &[u8]) -> [i32; Table::LETTERS]
     ensures { (a : ℕ) → a < most_letters → get_or result a (pos 0) ≡ change (kind_in (parse table.now) a) }
 {
-    let mut added = [0i32; Table::LETTERS];
-    for letter in 0..Table::LETTERS {
-        added[letter] = change(table, letter);
-    }
-    added
+    std::array::from_fn(|letter| change(table, letter))
 }
 
 // What a letter adds. One that the table does not have counts as plain here; `weigh` refuses it before it is added.
@@ -100,9 +82,9 @@ fn change(table: &[u8], letter: usize) -> i32
     ensures { result ≡ change (kind_in (parse table.now) letter) }
 {
     match table::kind_at(table, letter) {
-        KindAt::Plain => 0,
-        KindAt::Open => 1,
-        KindAt::Close => -1,
-        KindAt::NoLetter => 0,
+        Some(Kind::Plain) => 0,
+        Some(Kind::Open) => 1,
+        Some(Kind::Close) => -1,
+        None => 0,
     }
 }

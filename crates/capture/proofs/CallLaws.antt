@@ -3,8 +3,7 @@
 use Prim.Native.Nat.{ℕ, zero, suc, ◌/◌, ◌%◌, ◌<◌, ◌≤◌}
 use mathlib.Core.Logic.{◌⊎◌, inl, inr}
 use mathlib.Core.List.{List, ◌++◌, append-nil}
-use mathlib.Core.Option.{Option, none, some}
-use mathlib.Core.Path.{◌≡◌, refl, sym, ap, subst, ◌∙◌}
+use mathlib.Core.Path.{◌≡◌, refl, sym, ap, ◌∙◌}
 use native.Mathlib.Decide.{dec_lt}
 use native.Mathlib.Omega.{arith}
 use lib.ListN.{length, drop, replicate, take-append-drop, drop_of_length-le}
@@ -17,10 +16,7 @@ use Rattle.table.specs.Refusals.{verdict}
 use Rattle.reader.specs.Calls.{Reply, begin_call, letter_call, finish_call}
 use Rattle.reader.specs.Layout.{state_size, cleared}
 use Rattle.reader.proofs.CallLaws.{begin_refused, letter_refused, finish_keeps, begin_further, letter_further}
-use Rattle.shortest.specs.Answers.{shown_as}
-use Rattle.shortest.specs.declared.Shown.{Shown}
-use Rattle.shortest.specs.declared.Shown.TheVariants as shown
-use Rattle.shortest.proofs.CallLaws.{OtherLog, shortest_once}
+use Rattle.shortest.proofs.CallLaws.{OtherLog, outcome_once}
 use Rattle.whole_log.specs.Calls.{log_call}
 use Rattle.whole_log.proofs.CallLaws.{Checks, log_no_table, log_few_words, log_too_long, log_answers, log_does}
 use Rattle.capture.specs.Calls.{ExportedShortest, Exported, on_bytes, exported_begin, exported_letter, exported_finish, exported_log}
@@ -65,24 +61,10 @@ pub heard_told : (a b : Answer Heard) → value_of a < kind_size → value_of b 
 heard_told a b l m e = sym (heard_back a l) ∙ ap (λ n. heard_by (n / kind_size) (n % kind_size)) e ∙ heard_back b m
 
 -- The shortest log: the number and scratch are determined, and the output but for the choice among shortest logs.
-shown_by : Answer (Option ℕ) → Shown
-shown_by (refused k) = shown.Refused k
-shown_by (answered none) = shown.NoLog
-shown_by (answered (some n)) = shown.Letters n
-
-shown_by_lem : (a : Answer (Option ℕ)) → shown_as (shown_by a) ≡ a
-unfolding shown_by
-shown_by_lem (refused k) = refl
-shown_by_lem (answered none) = refl
-shown_by_lem (answered (some n)) = refl
-
 module _ (s scratch out : List ℕ) where
   pub exported_shortest_once : {n m : ℕ} {c d o p : List ℕ} (x : ExportedShortest s scratch out n c o) → ExportedShortest s scratch out m d p
       → (n ≡ m) × (c ≡ d) × ((o ≡ p) ⊎ OtherLog s scratch out x.answer o p)
-  exported_shortest_once {c = c} {d} {o} {p} x y =
-      let r = shortest_once s scratch out (shown_by x.answer) (shown_by y.answer) c d o p (rw shown_by_lem x.meets) (rw shown_by_lem y.meets) in
-      let same : x.answer ≡ y.answer = sym (shown_by_lem x.answer) ∙ ap shown_as r.0 ∙ shown_by_lem y.answer in
-      (x.told ∙ ap shown_number same ∙ sym y.told, r.1, subst (λ a. (o ≡ p) ⊎ OtherLog s scratch out a o p) (shown_by_lem x.answer) r.2)
+  exported_shortest_once x y = let r = outcome_once s scratch out x.meets y.meets in (x.told ∙ ap shown_number r.0 ∙ sym y.told, r.1, r.2)
 
 -- From here on a state's bytes.
 module _ (bytes : List ℕ) (low : AreBytes bytes) where

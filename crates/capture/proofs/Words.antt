@@ -5,14 +5,17 @@ use mathlib.Core.Path.{◌≡◌, refl, sym, ap, ◌∙◌}
 use native.Mathlib.Decide.{dec_lt}
 use native.Mathlib.Numerals.{add-one}
 use native.Mathlib.Omega.{arith}
-use lib.ListN.{length, get_or, set, take, drop, replicate, length-append, length-take}
+use lib.ListN.{length, get_or, take, drop, replicate, length-append, length-take, length-drop}
 use lib.Seq.{take-suc, take_all, drop-cons, take-add, drop-drop, ext_get_or}
-use borrow.Author.Tests.{lt-ltb}
+use borrow.Author.Rules.{rules}
+use mir.Syntax.{w64}
+use borrow.Rule.Slice.PartMut.{put_mid, same_len_mid}
+use Rattle.std.specs.Int.{to_le_bytes}
+use Rattle.std.proofs.lemmas.List.{places}
 use Rattle.table.specs.Bytes.{byte, part, AreBytes}
-use Rattle.table.proofs.Filled.{Filled}
 use Rattle.table.proofs.Parts.{length_part, byte_in_part, byte_past_part}
 use Rattle.triples.specs.Listing.{Laid}
-use Rattle.triples.proofs.Laying.{laid_none, laid_more, laid_then, laid_front}
+use Rattle.triples.proofs.Laying.{laid_none, laid_then, laid_front}
 use Rattle.capture.specs.State.{word_at, words_from, bytes_of, bytes_of_words}
 
 -- The words that stand in bytes, by their places.
@@ -27,56 +30,37 @@ word_get bytes i zero k l = absurd (omega arith)
 word_get bytes i (suc n) zero l = ap (λ (j : ℕ). word_at bytes j) (omega arith)
 word_get bytes i (suc n) (suc k) l = word_get bytes (i + 8) n k (omega arith) ∙ ap (λ (j : ℕ). word_at bytes j) (omega arith)
 
--- An array that was filled with them.
-pub filled_words : (bytes : List ℕ) {size n : ℕ} {u : List ℕ} → Filled (λ i. word_at bytes (8 * i)) 0 size n u → size ≤ n → u ≡ words_from bytes 0 size
-filled_words bytes {size} {n} {u} h l = ext_get_or 0 u (words_from bytes 0 size) (h.long ∙ sym (length_words bytes 0 size)) at where
-  at : (i : ℕ) → i < length u → get_or u i 0 ≡ get_or (words_from bytes 0 size) i 0
-  at i m =
-      sym (rw (lt-ltb i n (omega (arith, h.long))) at (h.at i))
-      ∙ sym (word_get bytes 0 size i (omega (arith, h.long)) ∙ ap (λ (j : ℕ). word_at bytes j) (omega arith))
-
--- What is left of a number without its lowest bytes.
-unfoldable pub rest : ℕ → ℕ → ℕ
-rest zero x = x
-rest (suc k) x = rest k (x / 256)
-
-pub rest_more : (k x : ℕ) → rest k x / 256 ≡ rest (suc k) x
-unfolding rest
-rest_more zero x = refl
-rest_more (suc k) x = rest_more k (x / 256)
+-- An array of as many, each of them where it belongs.
+pub made_words : (bytes : List ℕ) {size : ℕ} {u : List ℕ} → length u ≡ size → ((i : ℕ) → i < size → get_or u i 0 ≡ word_at bytes (8 * i)) → u ≡ words_from bytes 0 size
+made_words bytes {size} {u} long at = ext_get_or 0 u (words_from bytes 0 size) (long ∙ sym (length_words bytes 0 size)) each where
+  each : (i : ℕ) → i < length u → get_or u i 0 ≡ get_or (words_from bytes 0 size) i 0
+  each i l = at i (omega (arith, long)) ∙ sym (word_get bytes 0 size i (omega (arith, long)) ∙ ap (λ (j : ℕ). word_at bytes j) (omega arith))
 
 pub length_bytes : (k x : ℕ) → length (bytes_of k x) ≡ k
 unfolding bytes_of
 length_bytes zero x = refl
 length_bytes (suc k) x = ap suc (length_bytes k (x / 256))
 
-bytes_more : (k x : ℕ) → bytes_of (suc k) x ≡ bytes_of k x ++ (rest k x % 256 ∷ [])
-unfolding bytes_of rest
-bytes_more zero x = refl
-bytes_more (suc k) x = ap (λ (y : List ℕ). x % 256 ∷ y) (bytes_more k (x / 256))
+-- A word's eight bytes, as the library writes them.
+pub eight_bytes : (x : ℕ) → bytes_of 8 x ≡ to_le_bytes w64 x
+unfolding bytes_of
+eight_bytes x =
+    let two : x / 256 / 256 ≡ x / 65536 = omega arith in
+    let three : x / 65536 / 256 ≡ x / 16777216 = omega arith in
+    let four : x / 16777216 / 256 ≡ x / 4294967296 = omega arith in
+    let five : x / 4294967296 / 256 ≡ x / 1099511627776 = omega arith in
+    let six : x / 1099511627776 / 256 ≡ x / 281474976710656 = omega arith in
+    let seven : x / 281474976710656 / 256 ≡ x / 72057594037927936 = omega arith in
+    rw (two, three, four, five, six, seven) refl
 
--- The lowest k bytes of a word are laid down, and this is left of it.
-pub record LaidBytes (place word : ℕ) (before : List ℕ) (k left : ℕ) (after : List ℕ) : Type 0 where
-  pub laid : Laid place (bytes_of k word) before after
-  pub left_is : left ≡ rest k word
-  pub most : k ≤ 8
-
-pub laid_no_byte : (place word : ℕ) (s : List ℕ) → LaidBytes place word s 0 word s
-unfolding bytes_of rest
-laid_no_byte place word s = record { laid = laid_none place s; left_is = refl; most = omega arith }
-
-pub laid_byte : {place word : ℕ} {before : List ℕ} {k left : ℕ} {after : List ℕ} → LaidBytes place word before k left after → k < 8 → place + 8 ≤ length before
-    → LaidBytes place word before (k + 1) (left / 256) (set after (place + k) (left % 256))
-laid_byte {place} {word} {before} {k} {left} {after} h l room = record {
-  laid =
-      let next : bytes_of (k + 1) word ≡ bytes_of k word ++ (left % 256 ∷ []) = rw (add-one k, h.left_is) (bytes_more k word) in
-      rw next (laid_more (left % 256) h.laid (omega (arith, length_bytes k word)) (omega arith));
-  left_is = rw (h.left_is, add-one k) (rest_more k word);
-  most = omega arith;
+-- What is copied into a part of memory is laid down there.
+pub laid_copy : {place size : ℕ} {numbers before : List ℕ} → size ≡ length numbers → place + size ≤ length before → Laid place numbers before (put_mid place size before numbers)
+laid_copy {place} {size} {numbers} {before} e room = record {
+  long = same_len_mid place size before numbers (simp (length-take, length-drop) (omega arith));
+  at = λ i l. search (rules, places);
+  front = λ i l. search (rules, places);
+  rest = λ i l. search (rules, places);
 }
-
-pub laid_word : {place word : ℕ} {before : List ℕ} {k left : ℕ} {after : List ℕ} → LaidBytes place word before k left after → 8 ≤ k → Laid place (bytes_of 8 word) before after
-laid_word {place} {word} {before} {k} {after = after} h l = let e : k ≡ 8 = omega (arith, h.most) in rw e at h.laid
 
 -- The bytes of the first n of some words are laid down.
 pub record LaidWords (words before : List ℕ) (n : ℕ) (after : List ℕ) : Type 0 where

@@ -1,13 +1,15 @@
 // The numbers that the exported calls answer with: a kind times 2^32, and a value below that. The kinds are listed in specs/Numbers.
 ghost use Rattle.std.specs.Prelude.{◌<◌, ◌≡◌};
+ghost use Rattle.table.specs.Answers.{number_of};
 ghost use Rattle.table.specs.Calls.{for_table};
 ghost use Rattle.reader.specs.Answers.{heard_as};
 ghost use Rattle.capture.specs.Numbers.{kind_size, numbered, heard_number};
 ghost use Rattle.capture.specs.Steps.{value_of};
 
 use reader::Heard;
-use table::{Checked, refusal};
+use table::Refusal;
 
+// The answers stay numbers, and no enum, since C gets them.
 const KIND_SIZE: u64 = 4294967296;
 
 const GOING: u64 = KIND_SIZE;
@@ -25,10 +27,10 @@ pub const NO_LOG: u64 = 6 * KIND_SIZE;
 pub const GOOD: u64 = 7 * KIND_SIZE;
 
 // A refusal's kind is 0.
-pub fn refused(number: u8) -> u64
-    ensures { result ≡ number }
+pub fn refused(refusal: Refusal) -> u64
+    ensures { result ≡ number_of refusal }
 {
-    number as u64
+    u64::from(u8::from(refusal))
 }
 
 pub fn written(count: usize) -> u64
@@ -38,16 +40,16 @@ pub fn written(count: usize) -> u64
     WRITTEN + count as u64
 }
 
-pub fn heard(answer: Heard) -> u64
+pub fn heard(answer: Result<Heard, Refusal>) -> u64
     requires { value_of (heard_as answer) < kind_size }
     ensures { result ≡ heard_number (heard_as answer) }
 {
     match answer {
-        Heard::Refused(number) => refused(number),
-        Heard::Going => GOING,
-        Heard::Accepted => ACCEPTED,
-        Heard::Unfinished => UNFINISHED,
-        Heard::Stop(place) => STOP + place as u64,
+        Ok(Heard::Going) => GOING,
+        Ok(Heard::Accepted) => ACCEPTED,
+        Ok(Heard::Unfinished) => UNFINISHED,
+        Ok(Heard::Stop(place)) => STOP + place as u64,
+        Err(refusal) => refused(refusal),
     }
 }
 
@@ -56,7 +58,7 @@ pub fn too_short(table: &[u8]) -> u64
     ensures { result ≡ for_table table.now 7 (λ k. k) }
 {
     match table::check(table) {
-        Checked::Refused(number) => refused(number),
-        Checked::Good(_) => refused(refusal::LENT),
+        Ok(_) => refused(Refusal::Lent),
+        Err(refusal) => refused(refusal),
     }
 }

@@ -4,17 +4,21 @@
 // else meanwhile.
 #![tactic(auto)]
 
-ghost use Rattle.std.specs.Prelude.{◌≡◌};
-ghost use Rattle.table.specs.Calls.{check_answer, write_answer, write_out};
+ghost use Rattle.std.specs.Prelude.{ℕ, ◌<◌, ◌≤◌, List, length, ◌≡◌, Result};
+ghost use Rattle.std.specs.Fn.{FnOnceReturnsAtMut};
+ghost use Rattle.table.specs.Calls.{for_table, check_answer, write_answer, write_out};
 ghost use Rattle.trim.specs.Calls.{trim_call};
 ghost use Rattle.balance.specs.Calls.{balance_call};
 ghost use Rattle.capture.specs.Calls.{exported_begin, exported_letter, exported_finish, exported_log, ExportedShortest, balance_after, lowest_after};
-ghost use Rattle.capture.specs.Numbers.{check_number, written_number, weighed_number};
+ghost use Rattle.capture.specs.Numbers.{kind_size, check_number, written_number, weighed_number};
+ghost use Rattle.capture.specs.State.{state_bytes};
+ghost use Rattle.capture.specs.Steps.{value_of, OnWords};
+ghost use Rattle.reader.specs.Answers.{heard_as};
+ghost use Rattle.reader.specs.declared.Heard.{Heard};
+ghost use Rattle.table.specs.declared.refusal.Refusal.{Refusal};
 
-use balance::Weighed;
-use shortest::Shown;
-use table::{Checked, Written};
-use trim::Trimmed;
+use reader::Heard;
+use table::Refusal;
 
 mod answers;
 mod state;
@@ -24,8 +28,8 @@ pub fn nomyugereka_check(table: &[u8]) -> u64
     ensures { result ≡ check_number (check_answer table.now) }
 {
     match table::check(table) {
-        Checked::Refused(number) => answers::refused(number),
-        Checked::Good(_) => answers::GOOD,
+        Ok(_) => answers::GOOD,
+        Err(refusal) => answers::refused(refusal),
     }
 }
 
@@ -34,8 +38,8 @@ pub fn nomyugereka_write(table: &[u8], out: &mut [u8]) -> u64
     ensures out_after { out.new ≡ write_out table.now out.old }
 {
     match table::write(table, out) {
-        Written::Refused(number) => answers::refused(number),
-        Written::Bytes(count) => answers::written(count),
+        Ok(count) => answers::written(count),
+        Err(refusal) => answers::refused(refusal),
     }
 }
 
@@ -45,8 +49,8 @@ pub fn nomyugereka_trim(table: &[u8], scratch: &mut [u16], out: &mut [u8]) -> u6
     ensures out_after { out.new ≡ (trim_call table.now scratch.old out.old).out }
 {
     match trim::trim(table, scratch, out) {
-        Trimmed::Refused(number) => answers::refused(number),
-        Trimmed::Bytes(count) => answers::written(count),
+        Ok(count) => answers::written(count),
+        Err(refusal) => answers::refused(refusal),
     }
 }
 
@@ -55,9 +59,9 @@ pub fn nomyugereka_shortest(table: &[u8], scratch: &mut [u16], out: &mut [u8]) -
     ensures { ExportedShortest table.now scratch.old out.old result scratch.new out.new }
 {
     match shortest::shortest(table, scratch, out) {
-        Shown::Refused(number) => answers::refused(number),
-        Shown::NoLog => answers::NO_LOG,
-        Shown::Letters(count) => answers::written(count),
+        Ok(Some(count)) => answers::written(count),
+        Ok(None) => answers::NO_LOG,
+        Err(refusal) => answers::refused(refusal),
     }
 }
 
@@ -66,13 +70,7 @@ pub fn nomyugereka_begin(table: &[u8], state: &mut [u8]) -> u64
     ensures value { result ≡ (exported_begin table.now state.old).number }
     ensures state_after { state.new ≡ (exported_begin table.now state.old).bytes }
 {
-    if state.len() < state::BYTES {
-        return answers::too_short(table);
-    }
-    let mut words = state::words_in(state);
-    let heard = reader::begin(table, &mut words);
-    state::put(state, &words);
-    answers::heard(heard)
+    on_words(table, state, |words| reader::begin(table, words))
 }
 
 // The same of a letter: `letter_keeps`, `letter_past`.
@@ -80,13 +78,7 @@ pub fn nomyugereka_letter(table: &[u8], state: &mut [u8], letter: u8) -> u64
     ensures value { result ≡ (exported_letter table.now state.old letter).number }
     ensures state_after { state.new ≡ (exported_letter table.now state.old letter).bytes }
 {
-    if state.len() < state::BYTES {
-        return answers::too_short(table);
-    }
-    let mut words = state::words_in(state);
-    let heard = reader::letter(table, &mut words, letter);
-    state::put(state, &words);
-    answers::heard(heard)
+    on_words(table, state, |words| reader::letter(table, words, letter))
 }
 
 // The state is only read.
@@ -105,11 +97,23 @@ pub fn nomyugereka_read_log(table: &[u8], log: &[u8], state: &mut [u8]) -> u64
     ensures value { result ≡ (exported_log table.now log.now state.old).number }
     ensures state_after { state.new ≡ (exported_log table.now log.now state.old).bytes }
 {
+    on_words(table, state, |words| whole_log::read_log(table, log, words))
+}
+
+// What a call of the reader makes of the words that bytes hold, which it leaves in the bytes: its answer as a number, or the refusal of too few bytes.
+fn on_words<F>(table: &[u8], state: &mut [u8], call: F) -> u64
+where
+    F: FnOnce(&mut [u64]) -> Result<Heard, Refusal>,
+    requires callable { F.IsAlwaysCallable call }
+    requires small { (words left : List ℕ) (heard : Result Heard Refusal) → FnOnceReturnsAtMut F.FnOnce call words heard left → value_of (heard_as heard) < kind_size }
+    ensures few { length state.old < state_bytes → (result ≡ for_table table.now 7 (λ k. k)) × (state.new ≡ state.old) }
+    ensures enough { state_bytes ≤ length state.old → OnWords F.FnOnce call state.old result state.new }
+{
     if state.len() < state::BYTES {
         return answers::too_short(table);
     }
     let mut words = state::words_in(state);
-    let heard = whole_log::read_log(table, log, &mut words);
+    let heard = call(&mut words);
     state::put(state, &words);
     answers::heard(heard)
 }
@@ -121,13 +125,11 @@ pub fn nomyugereka_balance(table: &[u8], log: &[u8], balance: &mut i32, lowest: 
     ensures lowest_after { lowest.new ≡ lowest_after (balance_call table.now log.now) lowest.old }
 {
     match balance::balance(table, log) {
-        Weighed::Refused(number) => answers::refused(number),
-        Weighed::Tally(tally) => {
-            let whole = tally.balance;
-            let least = tally.lowest;
-            *balance = whole;
-            *lowest = least;
+        Ok(tally) => {
+            *balance = tally.balance;
+            *lowest = tally.lowest;
             answers::GOOD
         }
+        Err(refusal) => answers::refused(refusal),
     }
 }

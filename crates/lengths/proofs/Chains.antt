@@ -1,5 +1,5 @@
 -- Laws of chains of moves: how a loop that goes down over the moves makes them, and how one that goes along a chain meets every move of it.
-use Prim.Native.Nat.{ℕ, suc, ◌+◌, ◌*◌, ◌/◌, ◌-◌, ◌<◌, ◌≤◌}
+use Prim.Native.Nat.{ℕ, suc, ◌+◌, ◌*◌, ◌/◌, ◌<◌, ◌≤◌}
 use mathlib.Core.List.{List}
 use mathlib.Core.Logic.{◌⊎◌, inl, inr}
 use mathlib.Core.Path.{◌≡◌, refl, sym, subst, ◌∙◌}
@@ -13,6 +13,7 @@ use Rattle.table.specs.Layout.{moves_part}
 use Rattle.table.specs.Refusals.{verdict}
 use Rattle.table.proofs.Tables.{good_storable, good_moves, good_part_length}
 use Rattle.nesting.proofs.MovesFound.{move_bounds}
+use Rattle.lengths.specs.Along.{Forward}
 use Rattle.lengths.specs.Steps.{FirstFrom, Chained}
 
 -- A table's moves have their places in a chain of 1088.
@@ -103,9 +104,8 @@ pub record Walked (part : List ℕ) (column x k : ℕ) (P : ℕ → Type 0) : Ty
   pub done : (j : ℕ) → j < k → j < length part / 4 → byte part (4 * j + column) ≡ x → P j
 
 -- A step leads further, so that a walk ends.
-pub walked_further : {part : List ℕ} {column : ℕ} {chain : List ℕ} → Chained part column chain → {k : ℕ} → k < length part / 4
-    → length part / 4 - get_or chain (64 + k) 0 < length part / 4 - k
-walked_further chained {k} l = omega (arith, (chained.next k l).from)
+pub chained_forward : {part : List ℕ} {column : ℕ} {chain : List ℕ} → Chained part column chain → Forward (length part / 4) chain
+chained_forward chained k l = omega (arith, (chained.next k l).from)
 
 module _ {part : List ℕ} {column x : ℕ} where
   pub walked_map : {P R : ℕ → Type 0} {k : ℕ} → ((j : ℕ) → j < length part / 4 → P j → R j) → Walked part column x k P → Walked part column x k R

@@ -9,7 +9,7 @@ use lib.ListN.{length, get_or}
 use Rattle.vpa.specs.Automaton.{opening, closing, open_move, close_move}
 use Rattle.vpa.specs.Shortest.{HasLength, AtMost}
 use Rattle.vpa.proofs.Lengths.{has_nest}
-use Rattle.vpa.specs.TableOnDisk.{Table, kind_numbered, kind_in, InTable, in_open, in_close, automaton}
+use Rattle.vpa.specs.TableOnDisk.{Table, kind_in, InTable, in_open, in_close, automaton}
 use Rattle.table.specs.Bytes.{byte}
 use Rattle.table.specs.Calls.{kind_answer}
 use Rattle.table.specs.Layout.{moves_part, parse}
@@ -19,7 +19,7 @@ use Rattle.nesting.proofs.MovesFound.{StandsBelow, move_bounds, taken, skipped, 
 use Rattle.lengths.specs.Limit.{over}
 use Rattle.lengths.specs.Steps.{length_in, Chained, Sound, Lowered, LoweredTo, LoweredAfter, LoweredBefore, LoweredClosing, LoweredAround, Settled}
 use Rattle.lengths.proofs.Chains.{Walked, walked_map, walked_none, walked_more, walked_all}
-use Rattle.lengths.proofs.Lowering.{at_most_less, at_most_more, lowered_none, lowered_then}
+use Rattle.lengths.proofs.Lowering.{at_most_less, lowered_none, lowered_then}
 
 -- The loop along the close moves from q has come to number k.
 pub record ClosingSoFar (t : Table) (u : List ℕ) (p γ q v : ℕ) (s due s' due' : List ℕ) (k : ℕ) : Type 0 where
@@ -50,27 +50,22 @@ module _ (s : List ℕ) (good : verdict s ≡ 0) {u : List ℕ} (part : u ≡ mo
   close_low m = let w = close_stands m in rw (← w.to) (move_bounds s good part w.k w.low).2
 
   module _ {chain : List ℕ} (chained : Chained u 0 chain) {p γ q v : ℕ} {z due : List ℕ} where
-    pub closing_none : q < 64 → ClosingSoFar (parse s) u p γ q v z due z due (get_or chain q 0)
-    closing_none l = record { lowered = lowered_none z due; walked = walked_none chained l; sound = λ f c. f }
-
     module _ {z₁ due₁ : List ℕ} {k : ℕ} (l : k < length u / 4) (h : ClosingSoFar (parse s) u p γ q v z due z₁ due₁ k) where
-      pub closing_skip : {b : Bool} → move_of? s u (4 * k) 2 γ ≡ b → b ≡ false → ClosingSoFar (parse s) u p γ q v z due z₁ due₁ (get_or chain (64 + k) 0)
-      unfolding kind_numbered
+      pub closing_skip : {b : Bool} → move_of? s u (4 * k) closing γ ≡ b → b ≡ false → ClosingSoFar (parse s) u p γ q v z due z₁ due₁ (get_or chain (64 + k) 0)
       closing_skip d e = record {
         lowered = h.lowered;
-        walked = walked_more chained l (λ m. absurd (skipped s good part k 2 γ l d e m)) h.walked;
+        walked = walked_more chained l (λ m. absurd (skipped s good part k closing γ l d e m)) h.walked;
         sound = h.sound;
       }
 
-      pub closing_take : {b : Bool} {z₂ due₂ : List ℕ} → move_of? s u (4 * k) 2 γ ≡ b → b ≡ true → p < 64 → LoweredTo p (byte u (4 * k + 3)) v z₁ due₁ z₂ due₂
+      pub closing_take : {b : Bool} {z₂ due₂ : List ℕ} → move_of? s u (4 * k) closing γ ≡ b → b ≡ true → p < 64 → LoweredTo p (byte u (4 * k + 3)) v z₁ due₁ z₂ due₂
           → ClosingSoFar (parse s) u p γ q v z due z₂ due₂ (get_or chain (64 + k) 0)
-      unfolding kind_numbered
       closing_take d e low g = record {
         lowered = lowered_then h.lowered g.lowered;
         walked = walked_more chained l (λ m. g.here)
             (walked_map (λ j b f m. at_most_less (f m) (g.lowered.less p _ low (move_bounds s good part j b).2)) h.walked);
         sound = λ f c.
-            let m = taken s good part k 2 γ l d e in
+            let m = taken s good part k closing γ l d e in
             g.sound (parse s) (h.sound f c) (c (byte u (4 * k + 1)) _ (rw (← m.0, ← h.walked.at l, from_at k) (in_close (move_at s good part k l) m.1)));
       }
 
@@ -91,25 +86,23 @@ module _ (s : List ℕ) (good : verdict s ≡ 0) {u : List ℕ} (part : u ≡ mo
     around_none l = record { lowered = lowered_none z due; walked = walked_none chained l; sound = λ f c. f }
 
     module _ {z₁ due₁ : List ℕ} {k : ℕ} (l : k < length u / 4) (h : AroundSoFar (parse s) u p q v z due z₁ due₁ k) where
-      pub around_skip : {b : Bool} → of_kind? (kind_answer s (byte u (4 * k + 1))) 1 ≡ b → b ≡ false
+      pub around_skip : {b : Bool} → of_kind? (kind_answer s (byte u (4 * k + 1))) opening ≡ b → b ≡ false
           → AroundSoFar (parse s) u p q v z due z₁ due₁ (get_or chain (64 + k) 0)
-      unfolding kind_numbered
       around_skip d e = record {
         lowered = h.lowered;
-        walked = walked_more chained l (λ i. absurd (other_kind s good part k 1 l d e i)) h.walked;
+        walked = walked_more chained l (λ i. absurd (other_kind s good part k opening l d e i)) h.walked;
         sound = h.sound;
       }
 
-      pub around_take : {b : Bool} {z₂ due₂ : List ℕ} → of_kind? (kind_answer s (byte u (4 * k + 1))) 1 ≡ b → b ≡ true
+      pub around_take : {b : Bool} {z₂ due₂ : List ℕ} → of_kind? (kind_answer s (byte u (4 * k + 1))) opening ≡ b → b ≡ true
           → LoweredClosing (parse s) (byte u (4 * k)) (byte u (4 * k + 2)) q (v + 2) z₁ due₁ z₂ due₂
           → AroundSoFar (parse s) u p q v z due z₂ due₂ (get_or chain (64 + k) 0)
-      unfolding kind_numbered
       around_take d e g = record {
         lowered = lowered_then h.lowered g.lowered;
         walked = walked_more chained l (λ _. g.closing)
             (walked_map (λ j low f i b r m. at_most_less (f i b r m) (g.lowered.less _ r (move_bounds s good part j low).0 (close_low m))) h.walked);
         sound = λ f c.
-            let i = of_kind s good part k 1 l d e in
+            let i = of_kind s good part k opening l d e in
             g.sound (h.sound f c) (λ b r m. has_nest (automaton (parse s)) (subst (opens k) (h.walked.at l) (in_open (move_at s good part k l) i)) c m);
       }
 
@@ -121,21 +114,16 @@ module _ (s : List ℕ) (good : verdict s ≡ 0) {u : List ℕ} (part : u ≡ mo
     sound = h.sound;
   }
 
--- One after the other: what each finds as low as it has to be stays so.
-pub settled : {t : Table} {n p q v : ℕ} {z due z₁ due₁ z₂ due₂ z₃ due₃ : List ℕ} → n ≤ 64 → p < 64 → q < 64
+-- One after the other: what the first finds as low as it has to be stays so.
+pub settled : {t : Table} {n p q v : ℕ} {z due z₁ due₁ z₂ due₂ : List ℕ} → n ≤ 64 → p < 64 → q < 64
     → LoweredAfter n p q v z due z₁ due₁
-    → LoweredBefore n p q v z₁ due₁ z₂ due₂
-    → LoweredAround t p q v z₂ due₂ z₃ due₃
-    → Settled t n p q v z due z₃ due₃
-settled {t} {n} {p} {q} {v} {z} {due} {z₁} {due₁} {z₂} {due₂} {z₃} {due₃} some low small f g h = record {
-  lowered = lowered_then f.lowered then;
-  after = λ r l o. at_most_less (f.after r l o) (then.less p r low (omega arith));
-  before = λ r l o.
-      let m = f.lowered.less r p (omega arith) low in
-      at_most_less (at_most_more (g.before r l (omega arith)) (omega arith)) (h.lowered.less r q (omega arith) small);
+    → LoweredBefore n p q v z due z₁ due₁
+    → LoweredAround t p q v z₁ due₁ z₂ due₂
+    → Settled t n p q v z due z₂ due₂
+settled {t} some low small f g h = record {
+  lowered = lowered_then f.lowered h.lowered;
+  after = λ r l o. at_most_less (f.after r l o) (h.lowered.less _ r low (omega arith));
+  before = λ r l o. at_most_less (g.before r l o) (h.lowered.less r _ (omega arith) small);
   around = h.around;
-  sound = λ k c. h.sound (g.sound t (f.sound t k c) c) c;
+  sound = λ k c. h.sound (f.sound t k c) c;
 }
-  where
-    then : Lowered z₁ due₁ z₃ due₃
-    then = lowered_then g.lowered h.lowered

@@ -9,7 +9,7 @@ use native.Mathlib.Omega.{arith}
 use lib.ListN.{length}
 use Rattle.vpa.specs.Automaton.{plain, plain_move, open_move, close_move}
 use Rattle.vpa.specs.Shortest.{step_in, HasLength, AtMost}
-use Rattle.vpa.specs.TableOnDisk.{Table, state_count, kind_numbered, kind_in, InTable, in_plain, automaton}
+use Rattle.vpa.specs.TableOnDisk.{Table, state_count, kind_in, InTable, in_plain, automaton}
 use Rattle.vpa.proofs.TableMoves.{open_bounds, close_bounds}
 use Rattle.table.specs.Bytes.{byte}
 use Rattle.table.specs.Calls.{kind_answer}
@@ -20,18 +20,15 @@ use Rattle.relation.specs.Relations.{Holds}
 use Rattle.nesting.specs.Steps.{of_kind?}
 use Rattle.nesting.proofs.MovesFound.{StandsBelow, move_bounds, of_kind, other_kind, move_at, stands_at}
 use Rattle.lengths.specs.Limit.{over}
-use Rattle.lengths.specs.Steps.{length_in, Sound, Lowered, LoweredTo, LoweredSame, LoweredPlain, NoLengths, Searched}
+use Rattle.lengths.specs.Steps.{length_in, Sound, Lowered, LoweredTo, LoweredBy, LoweredSame, LoweredPlain, NoLengths, Searched}
 use Rattle.lengths.proofs.Search.{dues_lowered, dues_none}
-use Rattle.lengths.proofs.Lowering.{at_most_less, at_most_more, lowered_none, lowered_then}
+use Rattle.lengths.proofs.Lowering.{at_most_less, at_most_more, lowered_then}
 
 -- The turns below n are done: turn r, where C r, lowers the pair (x r, y r) to v r at most. Lengths stay sound for each table of which Q is said.
 pub record LoweredBelow (C : ℕ → Type 0) (x y v : ℕ → ℕ) (Q : Table → Type 0) (n : ℕ) (s due s' due' : List ℕ) : Type 0 where
   pub lowered : Lowered s due s' due'
   pub bound : (r : ℕ) → r < n → C r → AtMost over (length_in s' (x r) (y r)) (v r)
   pub sound : (t : Table) → Sound t s → Q t → Sound t s'
-
-pub below_none : {C : ℕ → Type 0} {x y v : ℕ → ℕ} {Q : Table → Type 0} (s due : List ℕ) → LoweredBelow C x y v Q 0 s due s due
-below_none s due = record { lowered = lowered_none s due; bound = λ r l c. absurd (omega arith); sound = λ t h q. h }
 
 module _ {C : ℕ → Type 0} {x y v : ℕ → ℕ} {Q : Table → Type 0} {n : ℕ} {s due s₁ due₁ : List ℕ} (h : LoweredBelow C x y v Q n s due s₁ due₁) where
   pub below_skip : (C n → ⊥) → LoweredBelow C x y v Q (n + 1) s due s₁ due₁
@@ -55,23 +52,45 @@ module _ {C : ℕ → Type 0} {x y v : ℕ → ℕ} {Q : Table → Type 0} {n : 
     less : (r : ℕ) → r < n → length_in s₂ (x r) (y r) ≤ length_in s₁ (x r) (y r)
     less r m = to.lowered.less _ _ (low r m).0 (low r m).1
 
+  -- The turn at n in the words of `LoweredBy`.
+  pub below_by : {a w : ℕ} {s₂ due₂ : List ℕ} → LoweredBy (x n) (y n) a w s₁ due₁ s₂ due₂ → (C n → (w ≤ over) × (a + w ≤ v n))
+      → ((t : Table) → Sound t s₁ → Q t → w ≤ over → HasLength (automaton t) over (x n) (y n) (a + w)) → ((r : ℕ) → r < n → (x r < 64) × (y r < 64))
+      → LoweredBelow C x y v Q (n + 1) s due s₂ due₂
+  below_by {s₂ = s₂} by most counts low = record {
+    lowered = lowered_then h.lowered by.lowered;
+    bound = λ r l c. ⊎_elim (λ e. here r e c) (λ m. at_most_less (h.bound r m c) (less r m)) (eq-or-lt_of_le (omega arith));
+    sound = λ t g q. let k = h.sound t g q in by.sound t k (counts t k q);
+  } where
+    here : (r : ℕ) → r ≡ n → C r → AtMost over (length_in s₂ (x r) (y r)) (v r)
+    here r e c = let m = most (subst C e c) in rw e (at_most_more (by.here m.0) m.1)
+
+    less : (r : ℕ) → r < n → length_in s₂ (x r) (y r) ≤ length_in s₁ (x r) (y r)
+    less r m = by.lowered.less _ _ (low r m).0 (low r m).1
+
+  -- Something else is lowered, which leaves what was done.
+  pub below_kept : {s₂ due₂ : List ℕ} → Lowered s₁ due₁ s₂ due₂ → ((t : Table) → Sound t s₁ → Q t → Sound t s₂) → ((r : ℕ) → r < n → (x r < 64) × (y r < 64))
+      → LoweredBelow C x y v Q n s due s₂ due₂
+  below_kept to keeps low = record {
+    lowered = lowered_then h.lowered to;
+    bound = λ r l c. at_most_less (h.bound r l c) (to.less _ _ (low r l).0 (low r l).1);
+    sound = λ t g q. keeps t (h.sound t g q) q;
+  }
+
 -- The loop over the moves of a table, u being their bytes, that lowers along the plain ones.
 abbrev pub PlainBelow : Table → List ℕ → ℕ → List ℕ → List ℕ → List ℕ → List ℕ → Type 0
 PlainBelow t u = LoweredBelow (λ k. kind_in t (byte u (4 * k + 1)) ≡ plain) (λ k. byte u (4 * k)) (λ k. byte u (4 * k + 3)) (λ k. 1) (λ t'. t' ≡ t)
 
 module _ (b : List ℕ) (good : verdict b ≡ 0) {u : List ℕ} (part : u ≡ moves_part b)
     {n : ℕ} {s due s₁ due₁ : List ℕ} (h : PlainBelow (parse b) u n s due s₁ due₁) where
-  module _ (l : n < length u / 4) {answer : Bool} (d : of_kind? (kind_answer b (byte u (4 * n + 1))) 0 ≡ answer) where
+  module _ (l : n < length u / 4) {answer : Bool} (d : of_kind? (kind_answer b (byte u (4 * n + 1))) plain ≡ answer) where
     pub plain_skip : answer ≡ false → PlainBelow (parse b) u (n + 1) s due s₁ due₁
-    unfolding kind_numbered
-    plain_skip e = below_skip h (other_kind b good part n 0 l d e)
+    plain_skip e = below_skip h (other_kind b good part n plain l d e)
 
     pub plain_more : {s₂ due₂ : List ℕ} → answer ≡ true → LoweredTo (byte u (4 * n)) (byte u (4 * n + 3)) 1 s₁ due₁ s₂ due₂
         → PlainBelow (parse b) u (n + 1) s due s₂ due₂
-    unfolding kind_numbered
     plain_more e to = below_more h to (λ i. omega arith) counts (λ r m. let k = move_bounds b good part r (omega arith) in (k.0, k.2)) where
       here : InTable (parse b) (plain_move (byte u (4 * n)) (byte u (4 * n + 1)) (byte u (4 * n + 3)))
-      here = in_plain _ (move_at b good part n l) (of_kind b good part n 0 l d e)
+      here = in_plain _ (move_at b good part n l) (of_kind b good part n plain l d e)
 
       counts : (t : Table) → Sound t s₁ → t ≡ parse b → HasLength (automaton t) over (byte u (4 * n)) (byte u (4 * n + 3)) 1
       counts t g f = rw f (record { moves = 1; balanced = step_in here; counted = inl refl })

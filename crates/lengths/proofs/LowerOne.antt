@@ -1,18 +1,19 @@
 -- Laws of one length in scratch: where it stands, how it is lowered, and the loops that write no length everywhere and lower each state with itself.
 use Prim.Native.Nat.{ℕ, ◌+◌, ◌*◌, ◌<◌, ◌≤◌}
-use mathlib.Core.List.{List}
+use mathlib.Core.List.{List, ◌++◌}
 use mathlib.Core.Logic.{◌⊎◌, inl, inr, ⊎_elim}
 use mathlib.Core.Path.{◌≡◌, refl, ◌∙◌}
 use native.Mathlib.Decide.{ℕ_discrete}
 use native.Mathlib.Omega.{arith}
-use lib.ListN.{length, get_or, set, length-set}
+use lib.ListN.{length, get_or, set, take, drop, replicate, length-set}
 use lib.Seq.{get_or-take, get_or-set_same, get_or-set_other}
+use Rattle.std.proofs.Common.{length-take}
+use Rattle.std.proofs.lemmas.Grind.{common_steps}
 use Rattle.vpa.specs.Automaton.{Vpa}
 use Rattle.vpa.specs.Shortest.{same_in, HasLength}
 use Rattle.vpa.specs.TableOnDisk.{Table, automaton}
 use Rattle.relation.specs.Relations.{HoldsExactly, With}
 use Rattle.nesting.specs.Scratch.{KeptFrom}
-use Rattle.nesting.proofs.Cleared.{kept_none, kept_then}
 use Rattle.lengths.specs.Limit.{over}
 use Rattle.lengths.specs.Steps.{length_in, Sound, LoweredTo, LoweredSame, NoLengths}
 use Rattle.lengths.proofs.Lowering.{over_is, lowered_none, lowered_then}
@@ -75,9 +76,6 @@ module _ {s due : List ℕ} {p q v c : ℕ} (low : p < 64) (low-too : q < 64) (c
     keeps t h k x y l m g (inr e) = rw e (h.has x y l m (rw e at g))
 
 -- Each state below n with itself.
-pub same_none : (s due : List ℕ) → LoweredSame 0 s due s due
-same_none s due = record { lowered = lowered_none s due; same = λ p l. absurd (omega arith); sound = λ t h. h }
-
 pub same_more : {n : ℕ} {s due s₁ due₁ s₂ due₂ : List ℕ} → n < 64 → LoweredSame n s due s₁ due₁ → LoweredTo n n 0 s₁ due₁ s₂ due₂
     → LoweredSame (n + 1) s due s₂ due₂
 same_more {n} {s₂ = s₂} low f g = record {
@@ -89,22 +87,19 @@ same_more {n} {s₂ = s₂} low f g = record {
   at p l (yes e) = rw e (omega (arith, g.here.most))
   at p l (no e) = omega (arith, g.lowered.less p p (omega arith) (omega arith), f.same p (omega arith))
 
-pub same_all : {n k : ℕ} {s due s' due' : List ℕ} → n ≤ k → LoweredSame k s due s' due' → LoweredSame n s due s' due'
-same_all l h = record { lowered = h.lowered; same = λ p m. h.same p (omega arith); sound = h.sound }
+-- The first n numbers are v, and the rest is as it was.
+filled_kept : (n v : ℕ) (s : List ℕ) → n ≤ length s → KeptFrom n s (replicate n v ++ drop n s)
+filled_kept n v s l = record { long = grind (arith, common_steps); rest = λ i m. grind (arith, common_steps) }
 
--- s' is s with no length at its first n places.
-pub record ForgottenSoFar (n : ℕ) (s s' : List ℕ) : Type 0 where
-  pub kept : KeptFrom 4096 s s'
-  pub none : (i : ℕ) → i < n → get_or s' i 0 ≡ 4098
+filled_there : (n v : ℕ) (s : List ℕ) (i : ℕ) → i < n → get_or (replicate n v ++ drop n s) i 0 ≡ v
+filled_there n v s i l = grind (arith, common_steps)
 
-pub forgotten_none : (s : List ℕ) → ForgottenSoFar 0 s s
-forgotten_none s = record { kept = kept_none 4096 s; none = λ i l. absurd (omega arith) }
-
-pub forgotten_more : {n : ℕ} {s s' : List ℕ} → n < 4096 → 4096 ≤ length s → ForgottenSoFar n s s' → ForgottenSoFar (n + 1) s (set s' n 4098)
-forgotten_more {n} {s} {s'} l long h = record { kept = kept_then h.kept (set_kept s' n 4098 l); none = λ i m. at i m (ℕ_discrete i n) } where
-  at : (i : ℕ) → i < n + 1 → Dec (i ≡ n) → get_or (set s' n 4098) i 0 ≡ 4098
-  at i m (yes e) = rw e (get_or-set_same s' n 4098 0 (omega (arith, h.kept.long)))
-  at i m (no e) = get_or-set_other s' n i 4098 0 e ∙ h.none i (omega arith)
-
-pub forgotten_all : {n : ℕ} {s s' : List ℕ} → 4096 ≤ n → ForgottenSoFar n s s' → NoLengths s'
-forgotten_all {s' = s'} l h = record { none = λ p q a b. omega (arith, over_is, length_in_lem s' p q a b, h.none (64 * p + q) (omega arith)) }
+-- The number that stands for no length at each of the places of the lengths.
+pub forgotten : {front : List ℕ} (s : List ℕ) → 4096 ≤ length s → front ≡ replicate (length (take 4096 s)) 4098
+    → NoLengths (front ++ drop 4096 s) × KeptFrom 4096 s (front ++ drop 4096 s)
+forgotten s long e =
+    let count : length (take 4096 s) ≡ 4096 = omega (arith, length-take 4096 s) in
+    rw (e, count) (
+      record { none = λ p q a b. omega (arith, over_is, length_in_lem (replicate 4096 4098 ++ drop 4096 s) p q a b, filled_there 4096 4098 s (64 * p + q) (omega arith)) },
+      filled_kept 4096 4098 s long,
+    )

@@ -1,15 +1,12 @@
 -- The search for the least lengths: a pair is taken from those that are due and settled, less work is left, and what holds of the lengths found so far
 -- holds again; where nothing is due they are the least ones.
 use Prim.Native.Nat.{ℕ, ◌+◌, ◌*◌, ◌%◌, ◌^◌, ◌<◌, ◌≤◌}
-use borrow.Author.Tests.{eqb-true, eqb-false, eq-eqb, not-true}
-use mathlib.Core.Bool.{Bool, true, false, not, ◌&&◌, ◌||◌, true≢false}
 use mathlib.Core.List.{List}
 use mathlib.Core.Logic.{⊎_elim}
-use mathlib.Core.Path.{◌≡◌, refl, sym, ap, ◌∙◌}
+use mathlib.Core.Path.{◌≡◌, sym, ap, ◌∙◌}
 use native.Mathlib.Decide.{ℕ_discrete, dec_lt}
 use native.Mathlib.Omega.{arith}
 use lib.Bits.{bit_xor}
-use lib.Dec.{eqb}
 use lib.ListN.{length, get_or, set, get_or-eq_default}
 use lib.Seq.{get_or-set_same, get_or-set_other}
 use Rattle.vpa.specs.Automaton.{open_move, close_move}
@@ -17,13 +14,12 @@ use Rattle.vpa.specs.Shortest.{AtMost}
 use Rattle.vpa.specs.TableOnDisk.{Table, state_count, InTable, IsTable}
 use Rattle.vpa.proofs.TableMoves.{plain_bounds, open_bounds, close_bounds}
 use Rattle.table.specs.Layout.{Storable}
-use Rattle.table.proofs.All.{both}
 use Rattle.relation.specs.Digits.{bit, total}
 use Rattle.relation.specs.Relations.{Holds}
 use Rattle.relation.proofs.Digits.{Drop, without, one_shifted, bit_lt, total_grows_below, total_equal, total_one_more}
 use Rattle.relation.proofs.Relations.{digit_of, digit_none, no_digit}
 use Rattle.lengths.specs.Limit.{over}
-use Rattle.lengths.specs.Steps.{length_in, Least, Lowered, Settled, NoLengths, DueLengths, Searched, Taken, DueRow, work_left}
+use Rattle.lengths.specs.Steps.{length_in, Least, Lowered, Settled, NoLengths, DueLengths, Searched, Taken, work_left}
 use Rattle.lengths.proofs.Lowering.{at_most_less}
 
 same_pair? : (x y p q : ℕ) → Dec ((x ≡ p) × (y ≡ q))
@@ -168,37 +164,9 @@ module _ {t : Table} (is : Storable t) {n p q : ℕ} (all : n ≡ state_count t)
           go (yes d) k = rw (d.0, d.1) (settled.around p' q' a b γ (rw d.0 at m) (rw d.1 at n))
           go (no d) k = at_most_less (before.nest p' x y q' a b γ m n (free d h) k) (less p' q' (open_bounds t fit m).0 (close_bounds t fit n).3)
 
--- A row that is due among those below k, and n where none is.
-pub record DueBelow (n k : ℕ) (due : List ℕ) (p : ℕ) : Type 0 where
-  pub low : p ≤ n
-  pub due_here : p < n → get_or due p 0 ≡ 0 → ⊥
-  pub none : p ≡ n → (x : ℕ) → x < k → get_or due x 0 ≡ 0
-
-pub below_none : (n : ℕ) (due : List ℕ) → DueBelow n 0 due n
-below_none n due = record { low = omega arith; due_here = λ l. absurd (omega arith); none = λ e x l. absurd (omega arith) }
-
--- One row more, by the test that the code makes: the row is due, and none was so far or it is sooner.
-pub below_here : {n k : ℕ} (due : List ℕ) (b : Bool) → k < n → not (eqb (get_or due k 0) 0) && b ≡ true → DueBelow n (k + 1) due k
-below_here {n} {k} due b l e =
-    record { low = omega arith; due_here = λ m. eqb-false (get_or due k 0) 0 (not-true _ (both _ b e).0); none = λ d. absurd (omega arith) }
-
-pub below_past : {n k p : ℕ} (due : List ℕ) (b : Bool) → not (eqb (get_or due k 0) 0) && (eqb p n || b) ≡ false
-    → DueBelow n k due p → DueBelow n (k + 1) due p
-below_past {n} {k} {p} due b f h = record { low = h.low; due_here = h.due_here; none = λ e x l. go e x l (ℕ_discrete x k) } where
-  zero_row : p ≡ n → (z : Bool) → eqb (get_or due k 0) 0 ≡ z → get_or due k 0 ≡ 0
-  zero_row e true d = eqb-true (get_or due k 0) 0 d
-  zero_row e false d = absurd (true≢false (rw (d, eq-eqb p n e) at f))
-
-  go : p ≡ n → (x : ℕ) → x < k + 1 → Dec (x ≡ k) → get_or due x 0 ≡ 0
-  go e x l (yes d) = rw d (zero_row e _ refl)
-  go e x l (no d) = h.none e x (omega arith)
-
-pub below_all : {n k p : ℕ} {due : List ℕ} → n ≤ k → DueBelow n k due p → DueRow n due p
-below_all l h = record { low = h.low; due_here = h.due_here; none = λ e x m. h.none e x (omega arith) }
-
 -- Where nothing is due, the rules lower nothing any more.
-pub searched_all : {t : Table} {n p : ℕ} {s due : List ℕ} → Storable t → n ≡ state_count t → DueRow n due p → p ≡ n → Searched t s due → Least t s
-searched_all {t} {n} {p} {s} {due} is all row none h = record {
+pub searched_all : {t : Table} {n : ℕ} {s due : List ℕ} → Storable t → n ≡ state_count t → ((x : ℕ) → x < n → get_or due x 0 ≡ 0) → Searched t s due → Least t s
+searched_all {t} {n} {s} {due} is all none h = record {
   closed = record {
     same = h.same;
     join = λ x y z l m k. h.join x y z l m k (free x y l) (free y z m);
@@ -209,4 +177,4 @@ searched_all {t} {n} {p} {s} {due} is all row none h = record {
 }
   where
     free : (x y : ℕ) → x < state_count t → Holds due x y → ⊥
-    free x y l g = no_digit y (row.none none x (omega arith)) g.digit
+    free x y l g = no_digit y (none x (omega arith)) g.digit

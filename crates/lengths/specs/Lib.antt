@@ -1,2 +1,3 @@
+pub mod Along
 pub mod Limit
 pub mod Steps

@@ -51,6 +51,12 @@ pub record LoweredTo (p q v : ℕ) (s due s' due' : List ℕ) : Type 0 where
   pub here : AtMost over (length_in s' p q) v
   pub sound : (t : Table) → Sound t s → HasLength (automaton t) over p q v → Sound t s'
 
+-- Of one pair, to v and w together at most, where w is a length.
+pub record LoweredBy (p q v w : ℕ) (s due s' due' : List ℕ) : Type 0 where
+  pub lowered : Lowered s due s' due'
+  pub here : w ≤ over → AtMost over (length_in s' p q) (v + w)
+  pub sound : (t : Table) → Sound t s → (w ≤ over → HasLength (automaton t) over p q (v + w)) → Sound t s'
+
 -- Of the pairs (p, r) by way of q, and (r, q) by way of p, v being the length of (p, q).
 pub record LoweredAfter (n p q v : ℕ) (s due s' due' : List ℕ) : Type 0 where
   pub lowered : Lowered s due s' due'
@@ -119,12 +125,6 @@ pub record Taken (p q : ℕ) (due due' : List ℕ) : Type 0 where
   pub was : Holds due p q
   pub gone : Holds due' p q → ⊥
   pub rest : (x y : ℕ) → ((x ≡ p) × (y ≡ q) → ⊥) → Holds due' x y ↔ Holds due x y
-
--- A row below n that has pairs that are due; n where there is none.
-pub record DueRow (n : ℕ) (due : List ℕ) (p : ℕ) : Type 0 where
-  pub low : p ≤ n
-  pub due_here : p < n → get_or due p 0 ≡ 0 → ⊥
-  pub none : p ≡ n → (x : ℕ) → x < n → get_or due x 0 ≡ 0
 
 -- What falls with every pair that is looked at: it counts twice what a length can still be lowered by, and once that a pair is due.
 unfoldable pub work_left : List ℕ → List ℕ → ℕ

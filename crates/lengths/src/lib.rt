@@ -1,24 +1,28 @@
 // The least lengths of the balanced pairs of a table, in scratch.
 //
-// `find` finds them. `chain`, whose result it asks for, and `length_at` serve the crate above too. Pairs are looked at in the order of their lengths, each once: what follows from a pair (by a pair before it, by one
-// after it, by moves around it) is then no shorter than what was looked at before, so nothing has to be looked at again. That each is looked at once is
-// a matter of cost alone; what is found does not depend on it, since a pair that is lowered later would be due again.
+// `find` finds them. `chain`, whose result it asks for, and `length_at` serve the crates above too. Pairs are looked at in the order of their lengths, each once:
+// what follows from a pair (by a pair before it, by one after it, by moves around it) is then no shorter than what was looked at before, so nothing has to be
+// looked at again. That each is looked at once is a matter of cost alone; what is found does not depend on it, since a pair that is lowered later would be due
+// again.
 //
-// Moves are found by `chain`, which leads from a move to the next one with the same from, or the same to.
+// Moves are found by `chain`, which leads from a move to the next one with the same from, or the same to. `Along` goes along a chain, and `Links` holds both chains
+// of a table with what is known of them.
 #![tactic(auto)]
 
-ghost use Rattle.std.specs.Prelude.{ℕ, ◌+◌, ◌*◌, ◌/◌, ◌<◌, ◌≤◌, length, get_or, ◌⊎◌, ◌≡◌};
-ghost use Rattle.vpa.specs.TableOnDisk.{state_count};
-ghost use Rattle.table.specs.Layout.{moves_part, parse};
+ghost use Rattle.std.specs.Prelude.{ℕ, ◌+◌, ◌*◌, ◌-◌, ◌/◌, ◌<◌, ◌≤◌, length, get_or, ◌⊎◌, ◌≡◌, None, Some};
+ghost use Rattle.table.specs.Layout.{moves_part};
+ghost use Rattle.table.specs.Meaning.{meant};
 ghost use Rattle.table.specs.Refusals.{verdict};
 ghost use Rattle.relation.specs.Digits.{bit};
 ghost use Rattle.relation.specs.Relations.{Holds, HoldsExactly, With};
 ghost use Rattle.nesting.specs.Scratch.{KeptFrom};
-ghost use Rattle.lengths.specs.Steps.{length_in, Least, Chained, LoweredTo, LoweredAfter, LoweredBefore, LoweredClosing, LoweredAround, Settled, LoweredSame, LoweredPlain, NoLengths, Searched, Taken, DueRow};
+ghost use Rattle.std.specs.Iterator.{at_most};
+ghost use Rattle.lengths.specs.Along.{Forward, GivesNext, BeginsAlong};
+ghost use Rattle.lengths.specs.Steps.{length_in, Least, Chained, LoweredTo, LoweredBy, LoweredAfter, LoweredBefore, LoweredClosing, LoweredAround, Settled, LoweredSame, LoweredPlain, NoLengths, Searched, Taken};
 
-use table::Table;
+use table::{Checked, Kind, Table};
 
-// Stands for every length past the most that is shown, 4096.
+// Stands for every length past the most that is shown, 4096. This and the next are numbers and no Option, since scratch lends cells of 16 bits for the lengths.
 pub const OVER: usize = 4097;
 
 // Stands for no length.
@@ -30,7 +34,7 @@ pub const COUNT: usize = 4096;
 // How many numbers a chain has: one for each state and one for each move.
 pub const CHAIN: usize = Table::STATES + Table::MOVES;
 
-// The columns of a move by which moves are chained.
+// The columns of a move by which moves are chained: numbers, since the contract of `chain` names the byte of a move that they stand for.
 pub const FROM: usize = 0;
 
 pub const TO: usize = 3;
@@ -40,20 +44,19 @@ pub fn length_at(scratch: &[u16], p: usize, q: usize) -> usize
     requires { (p < 64) × ((q < 64) × (4096 ≤ length scratch.now)) }
     ensures { (length_in scratch.now p q ≡ result) × (result < 65536) }
 {
-    scratch[64 * p + q] as usize
+    usize::from(scratch[64 * p + q])
 }
 
 // At place x the number of the first move that has x in the column, and at place 64 + k that of the next one after move k that has there what move k has; past
-// the moves where there is none.
+// the moves where there is none. It asks by a clause, and not by a `Checked`, since docs/DECISIONS.md names it.
 pub fn chain(table: &[u8], column: usize) -> [usize; CHAIN]
     requires { (verdict table.now ≡ 0) × ((column ≡ 0) ⊎ (column ≡ 3)) }
     ensures { Chained (moves_part table.now) column result }
 {
     let part = table::checked_moves(table);
     let mut r = [Table::MOVES; CHAIN];
-    let mut k = part.len() / 4;
-    while 0 < k {
-        k -= 1;
+    // The numbers themselves are what is chained, from the last move to the first.
+    for k in (0..part.len() / 4).rev() {
         let x = part[4 * k + column] as usize;
         r[64 + k] = r[x];
         r[x] = k;
@@ -61,159 +64,205 @@ pub fn chain(table: &[u8], column: usize) -> [usize; CHAIN]
     r
 }
 
-// Finds the least lengths of the pairs of a table.
-pub fn find(
-    table: &[u8],
-    states: usize,
-    from: &[usize; CHAIN],
-    to: &[usize; CHAIN],
-    scratch: &mut [u16],
-)
-    requires table_value { (verdict table.now ≡ 0) × ((states ≡ state_count (parse table.now)) × (4096 ≤ length scratch.old)) }
-    requires chained { Chained (moves_part table.now) 0 from.now × Chained (moves_part table.now) 3 to.now }
-    ensures { Least (parse table.now) scratch.new × KeptFrom 4096 scratch.old scratch.new }
-{
-    let mut due = [0u64; 64];
-    let mut soonest = [NONE; 64];
-    start(table, states, scratch, &mut due, &mut soonest);
-    loop {
-        let p = soonest_row(&due, &soonest, states);
-        if p == states {
-            return;
+// The numbers of the moves along a chain, in their order.
+#[derive(Drop)]
+pub struct Along<'a> {
+    chain: &'a [usize; CHAIN],
+    next: usize,
+    count: usize,
+    ghost forward: { Forward count chain.now },
+    ghost most: { count ≤ 1024 },
+}
+
+impl<'a> Iterator for Along<'a> {
+    type Item = usize;
+
+    ghost next_gives = { λ s given t. (t.chain ≡ s.chain) × ((t.count ≡ s.count) × GivesNext s.chain.now s.count s.next given t.next) };
+
+    ghost remaining = { λ s. at_most (s.count - s.next) };
+
+    fn next(&mut self) -> Option<usize> {
+        if self.next >= self.count {
+            return None;
         }
-        let q = take_from(scratch, &mut due, &mut soonest, p);
-        settle(
-            table,
-            states,
-            from,
-            to,
-            scratch,
-            &mut due,
-            &mut soonest,
-            p,
-            q,
-        );
+        let k = self.next;
+        self.next = self.chain[64 + k];
+        Some(k)
+    }
+}
+
+impl<'a> Along<'a> {
+    // Those of the first `count` moves that have x in the column by which they are chained.
+    pub fn new(chain: &'a [usize; CHAIN], x: usize, count: usize) -> Self
+        requires { (x < 64) × ((count ≤ 1024) × Forward count chain.now) }
+        ensures { (result.chain ≡ chain.entry) × ((result.count ≡ count) × (result.next ≡ get_or chain.now x 0)) }
+    {
+        Along {
+            chain,
+            next: chain[x],
+            count,
+        }
+    }
+}
+
+// The moves of a checked table, chained by the states that they lead from and by those that they lead to.
+#[derive(Clone, Copy)]
+pub struct Links<'a> {
+    pub table: &'a Checked<'a>,
+    from: &'a [usize; CHAIN],
+    to: &'a [usize; CHAIN],
+    ghost by_from: { Chained (moves_part table.now.bytes.now) 0 from.now },
+    ghost by_to: { Chained (moves_part table.now.bytes.now) 3 to.now },
+}
+
+impl<'a> Links<'a> {
+    pub fn new(table: &'a Checked<'a>, from: &'a [usize; CHAIN], to: &'a [usize; CHAIN]) -> Self
+        requires { Chained (moves_part table.now.bytes.now) 0 from.now × Chained (moves_part table.now.bytes.now) 3 to.now }
+        ensures { result.table ≡ table.entry }
+    {
+        Links { table, from, to }
+    }
+
+    // The bytes of the moves.
+    pub fn moves(self) -> &'a [u8]
+        ensures { result.now ≡ moves_part self.entry.table.now.bytes.now }
+    {
+        self.table.moves()
+    }
+
+    // The numbers of the moves that lead from state p.
+    pub fn leaving(self, p: usize) -> Along<'a>
+        requires { p < 64 }
+        ensures { BeginsAlong (moves_part self.entry.table.now.bytes.now) 0 p result.chain.now result.count result.next }
+    {
+        Along::new(self.from, p, self.moves().len() / 4)
+    }
+
+    // The numbers of the moves that lead to state q.
+    pub fn reaching(self, q: usize) -> Along<'a>
+        requires { q < 64 }
+        ensures { BeginsAlong (moves_part self.entry.table.now.bytes.now) 3 q result.chain.now result.count result.next }
+    {
+        Along::new(self.to, q, self.moves().len() / 4)
+    }
+}
+
+// The pairs that are due, a row of digits for each first half, and for each row the length of its shortest pair; NONE where the row is empty, and no Option, so
+// that lengths are compared as they stand.
+#[derive(Drop)]
+struct Queue {
+    due: [u64; 64],
+    soonest: [usize; 64],
+}
+
+impl Queue {
+    fn new() -> Self
+        ensures { (p q : ℕ) → Holds result.due p q → ⊥ }
+    {
+        Queue {
+            due: [0; 64],
+            soonest: [NONE; 64],
+        }
+    }
+
+    // Notes that the pair (p, q) is due, which has this length.
+    fn note(&mut self, p: usize, q: usize, moves: usize)
+        requires { (p < 64) × (q < 64) }
+        ensures { HoldsExactly self.new.due (With self.old.due p q) }
+    {
+        self.due[p] |= 1u64 << q;
+        self.soonest[p] = self.soonest[p].min(moves);
+    }
+
+    // A row with pairs that are due, and among such rows one with the shortest.
+    fn soonest_row(&self, states: usize) -> Option<usize>
+        requires { states ≤ 64 }
+        ensures none { result ≡ None → (p : ℕ) → p < states → get_or self.now.due p 0 ≡ 0 }
+        ensures some { (p : ℕ) → result ≡ Some p → (p < states) × (get_or self.now.due p 0 ≡ 0 → ⊥) }
+    {
+        (0..states)
+            .filter(|&p| self.due[p] != 0)
+            .min_by_key(|&p| self.soonest[p])
+    }
+
+    // Takes the shortest pair of row p that is due, and answers its second half.
+    fn take_from(&mut self, scratch: &[u16], p: usize) -> usize
+        requires { (p < 64) × ((4096 ≤ length scratch.now) × (get_or self.old.due p 0 ≡ 0 → ⊥)) }
+        ensures { Taken p result self.old.due self.new.due }
+    {
+        let row = self.due[p];
+        let q = soonest_in(scratch, row, p);
+        let rest = row ^ (1u64 << q);
+        self.due[p] = rest;
+        self.soonest[p] = soonest_of(scratch, rest, p);
+        q
+    }
+}
+
+// Finds the least lengths of the pairs of a table.
+pub fn find(table: &Checked, from: &[usize; CHAIN], to: &[usize; CHAIN], scratch: &mut [u16])
+    requires room { 4096 ≤ length scratch.old }
+    requires chained { Chained (moves_part table.now.bytes.now) 0 from.now × Chained (moves_part table.now.bytes.now) 3 to.now }
+    ensures { Least (meant table.now) scratch.new × KeptFrom 4096 scratch.old scratch.new }
+{
+    let links = Links::new(table, from, to);
+    let mut queue = Queue::new();
+    start(table, scratch, &mut queue);
+    while let Some(p) = queue.soonest_row(table.counts.states) {
+        let q = queue.take_from(scratch, p);
+        settle(links, scratch, &mut queue, p, q);
     }
 }
 
 // The lengths that are known at once: of each state with itself, and along plain moves.
-fn start(
-    table: &[u8],
-    states: usize,
-    scratch: &mut [u16],
-    due: &mut [u64; 64],
-    soonest: &mut [usize; 64],
-)
-    requires table_value { (verdict table.now ≡ 0) × ((states ≡ state_count (parse table.now)) × (4096 ≤ length scratch.old)) }
-    requires by_index { (p q : ℕ) → Holds due.old p q → ⊥ }
-    ensures { Searched (parse table.now) scratch.new due.new × KeptFrom 4096 scratch.old scratch.new }
+fn start(table: &Checked, scratch: &mut [u16], queue: &mut Queue)
+    requires room { 4096 ≤ length scratch.old }
+    requires none_due { (p q : ℕ) → Holds queue.old.due p q → ⊥ }
+    ensures { Searched (meant table.now) scratch.new queue.new.due × KeptFrom 4096 scratch.old scratch.new }
 {
     forget(scratch);
-    lower_same(states, scratch, due, soonest);
-    lower_plain(table, scratch, due, soonest);
+    lower_same(table.counts.states, scratch, queue);
+    lower_plain(table, scratch, queue);
 }
 
 fn forget(scratch: &mut [u16])
     requires { 4096 ≤ length scratch.old }
     ensures { NoLengths scratch.new × KeptFrom 4096 scratch.old scratch.new }
 {
-    for i in 0..COUNT {
-        scratch[i] = NONE as u16;
-    }
+    scratch[..COUNT].fill(NONE as u16);
 }
 
-fn lower_same(states: usize, scratch: &mut [u16], due: &mut [u64; 64], soonest: &mut [usize; 64])
+fn lower_same(states: usize, scratch: &mut [u16], queue: &mut Queue)
     requires { (states ≤ 64) × (4096 ≤ length scratch.old) }
-    ensures { LoweredSame states scratch.old due.old scratch.new due.new }
+    ensures { LoweredSame states scratch.old queue.old.due scratch.new queue.new.due }
 {
     for p in 0..states {
-        lower(scratch, due, soonest, p, p, 0);
+        lower(scratch, queue, p, p, 0);
     }
 }
 
-fn lower_plain(table: &[u8], scratch: &mut [u16], due: &mut [u64; 64], soonest: &mut [usize; 64])
-    requires { (verdict table.now ≡ 0) × (4096 ≤ length scratch.old) }
-    ensures { LoweredPlain (parse table.now) scratch.old due.old scratch.new due.new }
+fn lower_plain(table: &Checked, scratch: &mut [u16], queue: &mut Queue)
+    requires { 4096 ≤ length scratch.old }
+    ensures { LoweredPlain (meant table.now) scratch.old queue.old.due scratch.new queue.new.due }
 {
-    let part = table::checked_moves(table);
-    let mut k: usize = 0;
-    while k < part.len() / 4 {
-        let i = 4 * k;
-        k += 1;
-        if nesting::is_of_kind(table, part[i + 1] as usize, nesting::PLAIN) {
-            lower(
-                scratch,
-                due,
-                soonest,
-                part[i] as usize,
-                part[i + 3] as usize,
-                1,
-            );
+    let part = table.moves();
+    for &[from, letter, _, to] in part.as_chunks::<4>().0 {
+        if nesting::is_of_kind(table.bytes, letter as usize, Kind::Plain) {
+            lower(scratch, queue, from as usize, to as usize, 1);
         }
     }
 }
 
 // Lowers one length, if it is not as low already, and notes that the pair is due.
-fn lower(
-    scratch: &mut [u16],
-    due: &mut [u64; 64],
-    soonest: &mut [usize; 64],
-    p: usize,
-    q: usize,
-    moves: usize,
-)
+fn lower(scratch: &mut [u16], queue: &mut Queue, p: usize, q: usize, moves: usize)
     requires { (p < 64) × ((q < 64) × (4096 ≤ length scratch.old)) }
-    ensures { LoweredTo p q moves scratch.old due.old scratch.new due.new }
+    ensures { LoweredTo p q moves scratch.old queue.old.due scratch.new queue.new.due }
 {
-    let counted = lesser(moves, OVER);
+    let counted = moves.min(OVER);
     if counted < length_at(scratch, p, q) {
         scratch[64 * p + q] = counted as u16;
-        note(due, p, q);
-        soonest[p] = lesser(soonest[p], counted);
+        queue.note(p, q, counted);
     }
-}
-
-// Notes that the pair (p, q) is due.
-fn note(due: &mut [u64], p: usize, q: usize)
-    requires { (p < 64) × ((q < 64) × (length due.old ≡ 64)) }
-    ensures { HoldsExactly due.new (With due.old p q) }
-{
-    due[p] = due[p] | (1u64 << q);
-}
-
-fn lesser(a: usize, b: usize) -> usize
-    ensures { (result ≤ a) × ((result ≤ b) × ((result ≡ a) ⊎ (result ≡ b))) }
-{
-    if a < b { a } else { b }
-}
-
-// A row with pairs that are due, and among such rows one with the shortest; `states` where no row is due.
-fn soonest_row(due: &[u64; 64], soonest: &[usize; 64], states: usize) -> usize
-    requires { states ≤ 64 }
-    ensures { DueRow states due.now result }
-{
-    let mut best = states;
-    let mut least = NONE;
-    for p in 0..states {
-        if (due[p] != 0) & ((best == states) | (soonest[p] < least)) {
-            best = p;
-            least = soonest[p];
-        }
-    }
-    best
-}
-
-// Takes the shortest pair of row p that is due, and answers its second half.
-fn take_from(scratch: &[u16], due: &mut [u64; 64], soonest: &mut [usize; 64], p: usize) -> usize
-    requires { (p < 64) × ((4096 ≤ length scratch.now) × (get_or due.old p 0 ≡ 0 → ⊥)) }
-    ensures { Taken p result due.old due.new }
-{
-    let row = due[p];
-    let q = soonest_in(scratch, row, p);
-    let rest = row ^ (1u64 << q);
-    due[p] = rest;
-    soonest[p] = soonest_of(scratch, rest, p);
-    q
 }
 
 // The length of a shortest pair among the second halves in row; NONE where row is empty.
@@ -231,11 +280,8 @@ fn soonest_in(scratch: &[u16], row: u64, p: usize) -> usize
     requires { (p < 64) × ((4096 ≤ length scratch.now) × (row ≡ 0 → ⊥)) }
     ensures { (result < 64) × (bit row result ≡ 1) }
 {
-    let mut best = u64::trailing_zeros(row) as usize;
-    let mut rest = row & (row - 1);
-    while rest != 0 {
-        let q = u64::trailing_zeros(rest) as usize;
-        rest = rest & (rest - 1);
+    let mut best = row.trailing_zeros() as usize;
+    for q in relation::ones_of(row) {
         if length_at(scratch, p, q) < length_at(scratch, p, best) {
             best = q;
         }
@@ -244,97 +290,66 @@ fn soonest_in(scratch: &[u16], row: u64, p: usize) -> usize
 }
 
 // Looks at what follows from the pair (p, q).
-fn settle(
-    table: &[u8],
-    states: usize,
-    from: &[usize; CHAIN],
-    to: &[usize; CHAIN],
-    scratch: &mut [u16],
-    due: &mut [u64; 64],
-    soonest: &mut [usize; 64],
-    p: usize,
-    q: usize,
-)
-    requires table_value { (verdict table.now ≡ 0) × ((states ≤ 64) × ((p < 64) × ((q < 64) × (4096 ≤ length scratch.old)))) }
-    requires chained { Chained (moves_part table.now) 0 from.now × Chained (moves_part table.now) 3 to.now }
-    ensures { Settled (parse table.now) states p q (length_in scratch.old p q) scratch.old due.old scratch.new due.new }
+fn settle(links: Links, scratch: &mut [u16], queue: &mut Queue, p: usize, q: usize)
+    requires { (p < 64) × ((q < 64) × (4096 ≤ length scratch.old)) }
+    ensures { Settled (meant links.entry.table.now) links.entry.table.now.counts.states p q (length_in scratch.old p q) scratch.old queue.old.due scratch.new queue.new.due }
 {
     let moves = length_at(scratch, p, q);
-    lower_after(states, scratch, due, soonest, p, q, moves);
-    lower_before(states, scratch, due, soonest, p, q, moves);
-    lower_around(table, from, to, scratch, due, soonest, p, q, moves);
+    lower_beside(links.table.counts.states, scratch, queue, p, q, moves);
+    lower_around(links, scratch, queue, p, q, moves);
 }
 
-// The pairs (p, r) by way of q.
-fn lower_after(
+// The pairs (p, r) by way of q, and the pairs (r, q) by way of p.
+fn lower_beside(
     states: usize,
     scratch: &mut [u16],
-    due: &mut [u64; 64],
-    soonest: &mut [usize; 64],
+    queue: &mut Queue,
     p: usize,
     q: usize,
     moves: usize,
 )
     requires { (states ≤ 64) × ((p < 64) × ((q < 64) × ((moves < 65536) × (4096 ≤ length scratch.old)))) }
-    ensures { LoweredAfter states p q moves scratch.old due.old scratch.new due.new }
+    ensures after { LoweredAfter states p q moves scratch.old queue.old.due scratch.new queue.new.due }
+    ensures before { LoweredBefore states p q moves scratch.old queue.old.due scratch.new queue.new.due }
 {
     for r in 0..states {
-        let more = length_at(scratch, q, r);
-        if more <= OVER {
-            lower(scratch, due, soonest, p, r, moves + more);
-        }
+        let after = length_at(scratch, q, r);
+        lower_by(scratch, queue, p, r, moves, after);
+        let before = length_at(scratch, r, p);
+        lower_by(scratch, queue, r, q, moves, before);
     }
 }
 
-// The pairs (r, q) by way of p.
-fn lower_before(
-    states: usize,
-    scratch: &mut [u16],
-    due: &mut [u64; 64],
-    soonest: &mut [usize; 64],
-    p: usize,
-    q: usize,
-    moves: usize,
-)
-    requires { (states ≤ 64) × ((p < 64) × ((q < 64) × ((moves < 65536) × (4096 ≤ length scratch.old)))) }
-    ensures { LoweredBefore states p q moves scratch.old due.old scratch.new due.new }
+// The pair (p, q) by way of a third state, one part being as long as moves says and the other as more says, which may stand for no length.
+fn lower_by(scratch: &mut [u16], queue: &mut Queue, p: usize, q: usize, moves: usize, more: usize)
+    requires { (p < 64) × ((q < 64) × ((moves < 65536) × ((more < 65536) × (4096 ≤ length scratch.old)))) }
+    ensures { LoweredBy p q moves more scratch.old queue.old.due scratch.new queue.new.due }
 {
-    for r in 0..states {
-        let more = length_at(scratch, r, p);
-        if more <= OVER {
-            lower(scratch, due, soonest, r, q, more + moves);
-        }
+    if more <= OVER {
+        lower(scratch, queue, p, q, moves + more);
     }
 }
 
 // The pairs around (p, q): from where an open move to p begins to where a close move from q with its mark ends.
 fn lower_around(
-    table: &[u8],
-    from: &[usize; CHAIN],
-    to: &[usize; CHAIN],
+    links: Links,
     scratch: &mut [u16],
-    due: &mut [u64; 64],
-    soonest: &mut [usize; 64],
+    queue: &mut Queue,
     p: usize,
     q: usize,
     moves: usize,
 )
-    requires table_value { (verdict table.now ≡ 0) × ((p < 64) × ((q < 64) × ((moves < 65536) × (4096 ≤ length scratch.old)))) }
-    requires chained { Chained (moves_part table.now) 0 from.now × Chained (moves_part table.now) 3 to.now }
-    ensures { LoweredAround (parse table.now) p q moves scratch.old due.old scratch.new due.new }
+    requires { (p < 64) × ((q < 64) × ((moves < 65536) × (4096 ≤ length scratch.old))) }
+    ensures { LoweredAround (meant links.entry.table.now) p q moves scratch.old queue.old.due scratch.new queue.new.due }
 {
-    let part = table::checked_moves(table);
-    let mut k = to[p];
-    while k < part.len() / 4 {
+    let part = links.moves();
+    for k in links.reaching(p) {
         let i = 4 * k;
-        k = to[64 + k];
-        if nesting::is_of_kind(table, part[i + 1] as usize, nesting::OPEN) {
+        if nesting::is_of_kind(links.table.bytes, part[i + 1] as usize, Kind::Open) {
             lower_closing(
-                table,
-                from,
+                links,
                 scratch,
-                due,
-                soonest,
+                queue,
                 part[i] as usize,
                 part[i + 2] as usize,
                 q,
@@ -346,27 +361,22 @@ fn lower_around(
 
 // The pairs from p to where the close moves from q with this mark lead.
 fn lower_closing(
-    table: &[u8],
-    from: &[usize; CHAIN],
+    links: Links,
     scratch: &mut [u16],
-    due: &mut [u64; 64],
-    soonest: &mut [usize; 64],
+    queue: &mut Queue,
     p: usize,
     mark: usize,
     q: usize,
     moves: usize,
 )
-    requires table_value { (verdict table.now ≡ 0) × ((p < 64) × ((q < 64) × (4096 ≤ length scratch.old))) }
-    requires chained { Chained (moves_part table.now) 0 from.now }
-    ensures { LoweredClosing (parse table.now) p mark q moves scratch.old due.old scratch.new due.new }
+    requires { (p < 64) × ((q < 64) × (4096 ≤ length scratch.old)) }
+    ensures { LoweredClosing (meant links.entry.table.now) p mark q moves scratch.old queue.old.due scratch.new queue.new.due }
 {
-    let part = table::checked_moves(table);
-    let mut k = from[q];
-    while k < part.len() / 4 {
+    let part = links.moves();
+    for k in links.leaving(q) {
         let i = 4 * k;
-        k = from[64 + k];
-        if nesting::is_move_of(table, part, i, nesting::CLOSE, mark) {
-            lower(scratch, due, soonest, p, part[i + 3] as usize, moves);
+        if nesting::is_move_of(links.table.bytes, part, i, Kind::Close, mark) {
+            lower(scratch, queue, p, part[i + 3] as usize, moves);
         }
     }
 }

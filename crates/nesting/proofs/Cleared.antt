@@ -1,11 +1,11 @@
--- The loop that clears scratch, and what scratch then holds.
+-- What scratch holds once it is cleared, and what is kept of it.
 use Prim.Native.Nat.{ℕ, ◌+◌, ◌<◌, ◌≤◌}
 use mathlib.Core.List.{List, ◌++◌}
-use mathlib.Core.Path.{◌≡◌, refl, sym, ap, ◌∙◌}
+use mathlib.Core.Path.{◌≡◌, refl, ap, ◌∙◌}
 use native.Mathlib.Omega.{arith}
-use lib.ListN.{length, set, take, drop, replicate, get_or, length-set, length-drop, length-replicate, get_or-append}
+use lib.ListN.{length, take, drop, replicate, get_or, length-drop, length-replicate, get_or-append}
 use lib.Seq.{drop_at, get_or-drop, ext_get_or}
-use Rattle.table.proofs.Copied.{copied_more, copied_all}
+use Rattle.std.proofs.Common.{length-take-le}
 use Rattle.relation.proofs.Relations.{zero_row}
 use Rattle.nesting.specs.Scratch.{scratch_size, cleared, KeptFrom}
 
@@ -16,28 +16,10 @@ scratch_size_lem = refl
 zeros_length : length (replicate {A = ℕ} scratch_size 0) ≡ scratch_size
 zeros_length = length-replicate scratch_size 0
 
--- s is d with zeros over its first n numbers.
-pub record ClearedSoFar (d : List ℕ) (n : ℕ) (s : List ℕ) : Type 0 where
-  pub is : s ≡ take n (replicate scratch_size 0) ++ drop n d
-  pub long : length s ≡ length d
-
-pub clear_none : (d : List ℕ) → ClearedSoFar d 0 d
-clear_none d = record { is = refl; long = refl }
-
-pub clear_more : {d : List ℕ} {n : ℕ} {s : List ℕ} → n < 16384 → scratch_size ≤ length d → ClearedSoFar d n s → ClearedSoFar d (n + 1) (set s n 0)
-clear_more {d} {n} {s} l g h = record {
-  is =
-      ap (λ (x : List ℕ). set x n 0) h.is
-      ∙ ap (λ (x : ℕ). set (take n (replicate scratch_size 0) ++ drop n d) n x) (sym (zero_row scratch_size n))
-      ∙ copied_more n (replicate scratch_size 0) d (omega (arith, zeros_length, scratch_size_lem)) (omega (arith, scratch_size_lem));
-  long = length-set s n 0 ∙ h.long;
-}
-
-pub clear_all : {d : List ℕ} {n : ℕ} {s : List ℕ} → n ≤ 16384 → 16384 ≤ n → ClearedSoFar d n s → s ≡ cleared d
+-- Zeros where the first numbers were, as many as there were.
+pub cleared_by : (scratch : List ℕ) {zeros : List ℕ} → scratch_size ≤ length scratch → zeros ≡ replicate (length (take 16384 scratch)) 0 → zeros ++ drop 16384 scratch ≡ cleared scratch
 unfolding cleared
-clear_all {d} {n} l g h =
-    h.is ∙ copied_all n (replicate scratch_size 0) d (omega (arith, zeros_length, scratch_size_lem)) (omega (arith, zeros_length, scratch_size_lem))
-    ∙ ap (λ (k : ℕ). replicate scratch_size 0 ++ drop k d) zeros_length
+cleared_by scratch l e = rw (e, length-take-le 16384 scratch (omega (arith, scratch_size_lem)), scratch_size_lem) refl
 
 -- Zeros in front, and what lies past them.
 pub cleared_zero : (scratch : List ℕ) (i : ℕ) → i < scratch_size → get_or (cleared scratch) i 0 ≡ 0

@@ -1,18 +1,17 @@
 -- The loop over the moves of a table that puts those of one kind and mark into a relation.
-use Prim.Native.Nat.{ℕ, zero, suc, ◌+◌, ◌*◌, ◌/◌, ◌%◌, ◌^◌, ◌<◌, ◌≤◌}
-use mathlib.Core.Bool.{Bool, true, false}
-use mathlib.Core.List.{List, Memᴰ}
+use Prim.Native.Nat.{ℕ, ◌+◌, ◌*◌, ◌/◌, ◌%◌, ◌^◌, ◌<◌, ◌≤◌}
+use mathlib.Core.Bool.{Bool, true, false, ◌&&◌}
+use mathlib.Core.List.{List, [], Memᴰ}
 use mathlib.Core.Logic.{◌↔◌, ◌⊎◌, inl, inr, ⊎_elim}
-use mathlib.Core.Option.{Option, some}
-use mathlib.Core.Path.{◌≡◌, refl, sym, ap, subst, ◌∙◌}
+use mathlib.Core.Path.{◌≡◌, refl, sym, ap, ap₂, subst, ◌∙◌}
 use native.Mathlib.Nat.{eq-or-lt_of_le}
 use native.Mathlib.Omega.{arith}
 use borrow.Author.Tests.{eqb-true, eq-eqb, ne_eqb}
 use lib.Bits.{bit_or}
 use lib.Dec.{T, eqb}
-use lib.ListN.{length, get_or, set, replicate}
+use lib.ListN.{length, get_or, set}
 use Rattle.vpa.specs.Automaton.{Kind}
-use Rattle.vpa.specs.TableOnDisk.{Table, entry, letter_count, kind_numbered, kind_in, is_kind?}
+use Rattle.vpa.specs.TableOnDisk.{Table, entry, letter_count, kind_in, is_kind?}
 use Rattle.vpa.proofs.Lists.{is_true}
 use Rattle.vpa.proofs.TableMoves.{kind_eq, kind_test}
 use Rattle.table.specs.Bytes.{byte}
@@ -23,33 +22,18 @@ use Rattle.table.proofs.All.{both, and_true}
 use Rattle.table.proofs.CallLaws.{kind_there}
 use Rattle.table.proofs.Entries.{move_in}
 use Rattle.table.proofs.Tables.{good_storable, good_table, good_part_length, move_here, move_place}
-use Rattle.relation.specs.Relations.{Holds, HoldsExactly, IsRelation}
-use Rattle.relation.proofs.Relations.{zeros_relation, zeros_hold, with_relation, with_pair}
+use Rattle.table.proofs.Quads.{quad_byte}
+use Rattle.std.specs.Simd.{first_chunks}
+use Rattle.relation.specs.Relations.{Holds, HoldsExactly, IsRelation, NoPair}
+use Rattle.relation.proofs.Relations.{with_relation, with_pair}
 use Rattle.nesting.specs.Steps.{MoveOf, of_kind?, move_of?}
 
--- Kinds are the same exactly if their numbers are.
-pub kind_told : (j : ℕ) {k : ℕ} {answer : Option Kind} → j ≤ 2 → k ≤ 2 → some (kind_numbered j) ≡ answer → of_kind? answer k ≡ eqb k j
-unfolding of_kind? is_kind? kind_numbered
-kind_told j {k} l g e = ap (λ answer. of_kind? answer k) (sym e) ∙ by j k l g where
-  by : (j k : ℕ) → j ≤ 2 → k ≤ 2 → is_kind? (kind_numbered j) (kind_numbered k) ≡ eqb k j
-  by zero zero l g = refl
-  by zero (suc zero) l g = refl
-  by zero (suc (suc k)) l g = sym (ne_eqb (suc (suc k)) 0 (λ e. omega arith))
-  by (suc zero) zero l g = refl
-  by (suc zero) (suc zero) l g = refl
-  by (suc zero) (suc (suc k)) l g = sym (ne_eqb (suc (suc k)) 1 (λ e. omega arith))
-  by (suc (suc j)) zero l g = sym (ne_eqb 0 (suc (suc j)) (λ e. omega arith))
-  by (suc (suc j)) (suc zero) l g = sym (ne_eqb 1 (suc (suc j)) (λ e. omega arith))
-  by (suc (suc j)) (suc (suc k)) l g = sym (eq-eqb (suc (suc k)) (suc (suc j)) (omega arith))
-
 -- The test of a move asks for its mark, and then for its letter's kind.
-pub mark_same : (s u : List ℕ) (i number : ℕ) {γ : ℕ} {b : Bool} → byte u (i + 2) ≡ γ → of_kind? (kind_answer s (byte u (i + 1))) number ≡ b → move_of? s u i number γ ≡ b
-unfolding move_of?
-mark_same s u i number e h = rw (eq-eqb _ _ e) h
+pub mark_same : (s : List ℕ) (a : ℕ) (asked : Kind) {m γ : ℕ} {b : Bool} → m ≡ γ → of_kind? (kind_answer s a) asked ≡ b → (eqb m γ && of_kind? (kind_answer s a) asked) ≡ b
+mark_same s a asked e h = rw (eq-eqb _ _ e) h
 
-pub mark_other : (s u : List ℕ) (i number : ℕ) {γ : ℕ} → (byte u (i + 2) ≡ γ → ⊥) → move_of? s u i number γ ≡ false
-unfolding move_of?
-mark_other s u i number n = rw (ne_eqb _ _ n)
+pub mark_other : (s : List ℕ) (a : ℕ) (asked : Kind) {m γ : ℕ} → (m ≡ γ → ⊥) → (eqb m γ && of_kind? (kind_answer s a) asked) ≡ false
+mark_other s a asked n = rw (ne_eqb _ _ n)
 
 -- A move of this kind and mark from p to q stands in the bytes u, as one of the first n.
 pub record StandsBelow (t : Table) (kind : Kind) (γ : ℕ) (u : List ℕ) (n p q : ℕ) : Type 0 where
@@ -64,9 +48,6 @@ pub record StandsBelow (t : Table) (kind : Kind) (γ : ℕ) (u : List ℕ) (n p 
 pub record MovesSoFar (t : Table) (kind : Kind) (γ : ℕ) (u : List ℕ) (n : ℕ) (r : List ℕ) : Type 0 where
   pub is : IsRelation r
   pub at : (p q : ℕ) → Holds r p q ↔ StandsBelow t kind γ u n p q
-
-pub moves_none : (t : Table) (kind : Kind) (γ : ℕ) (u : List ℕ) → MovesSoFar t kind γ u 0 (replicate 64 0)
-moves_none t kind γ u = record { is = zeros_relation; at = λ p q. (λ h. elim ((zeros_hold.at p q).0 h) [ ], λ w. absurd (omega (arith, w.low))) }
 
 module _ {t : Table} {kind : Kind} {γ : ℕ} {u : List ℕ} {n : ℕ} where
   later : {p q : ℕ} → StandsBelow t kind γ u n p q → StandsBelow t kind γ u (n + 1) p q
@@ -117,28 +98,32 @@ module _ (s : List ℕ) (good : verdict s ≡ 0) where
     move_bounds k l = rw part (bounds k (rw part at l))
 
     -- What the test of a move tells.
-    module _ (k number γ : ℕ) (l : k < length u / 4) where
-      kind_here : of_kind? (kind_answer s (byte u (4 * k + 1))) number ≡ is_kind? (kind_in (parse s) (byte u (4 * k + 1))) (kind_numbered number)
+    module _ (k : ℕ) (asked : Kind) (γ : ℕ) (l : k < length u / 4) where
+      kind_here : of_kind? (kind_answer s (byte u (4 * k + 1))) asked ≡ is_kind? (kind_in (parse s) (byte u (4 * k + 1))) asked
       unfolding of_kind?
-      kind_here = ap (λ kind. of_kind? kind number) (kind_there s _ (move_bounds k l).1)
+      kind_here = ap (λ kind. of_kind? kind asked) (kind_there s _ (move_bounds k l).1)
 
-      pub taken : {b : Bool} → move_of? s u (4 * k) number γ ≡ b → b ≡ true → (byte u (4 * k + 2) ≡ γ) × (kind_in (parse s) (byte u (4 * k + 1)) ≡ kind_numbered number)
+      pub taken : {b : Bool} → move_of? s u (4 * k) asked γ ≡ b → b ≡ true → (byte u (4 * k + 2) ≡ γ) × (kind_in (parse s) (byte u (4 * k + 1)) ≡ asked)
       unfolding move_of?
       taken d e =
-          let w = both (eqb (byte u (4 * k + 2)) γ) (of_kind? (kind_answer s (byte u (4 * k + 1))) number) (d ∙ e) in
+          let w = both (eqb (byte u (4 * k + 2)) γ) (of_kind? (kind_answer s (byte u (4 * k + 1))) asked) (d ∙ e) in
           (eqb-true _ _ w.0, kind_eq _ _ (subst T (sym (sym kind_here ∙ w.1)) tt))
 
-      pub skipped : {b : Bool} → move_of? s u (4 * k) number γ ≡ b → b ≡ false → (byte u (4 * k + 2) ≡ γ) × (kind_in (parse s) (byte u (4 * k + 1)) ≡ kind_numbered number) → ⊥
+      pub skipped : {b : Bool} → move_of? s u (4 * k) asked γ ≡ b → b ≡ false → (byte u (4 * k + 2) ≡ γ) × (kind_in (parse s) (byte u (4 * k + 1)) ≡ asked) → ⊥
       unfolding move_of?
       skipped d e (m, i) = subst T (sym (and_true (eq-eqb _ _ m) (kind_here ∙ is_true _ (kind_test _ _ i))) ∙ d ∙ e) tt
 
     -- The same of a test that asks for the kind alone.
-    module _ (k number : ℕ) {b : Bool} (l : k < length u / 4) (d : of_kind? (kind_answer s (byte u (4 * k + 1))) number ≡ b) where
-      pub of_kind : b ≡ true → kind_in (parse s) (byte u (4 * k + 1)) ≡ kind_numbered number
-      of_kind e = (taken k number (byte u (4 * k + 2)) l (mark_same s u (4 * k) number refl d) e).1
+    module _ (k : ℕ) (asked : Kind) {b : Bool} (l : k < length u / 4) (d : of_kind? (kind_answer s (byte u (4 * k + 1))) asked ≡ b) where
+      marked : move_of? s u (4 * k) asked (byte u (4 * k + 2)) ≡ b
+      unfolding move_of?
+      marked = mark_same s (byte u (4 * k + 1)) asked refl d
 
-      pub other_kind : b ≡ false → kind_in (parse s) (byte u (4 * k + 1)) ≡ kind_numbered number → ⊥
-      other_kind e i = skipped k number (byte u (4 * k + 2)) l (mark_same s u (4 * k) number refl d) e (refl, i)
+      pub of_kind : b ≡ true → kind_in (parse s) (byte u (4 * k + 1)) ≡ asked
+      of_kind e = (taken k asked (byte u (4 * k + 2)) l marked e).1
+
+      pub other_kind : b ≡ false → kind_in (parse s) (byte u (4 * k + 1)) ≡ asked → ⊥
+      other_kind e i = skipped k asked (byte u (4 * k + 2)) l marked e (refl, i)
 
     -- The moves of the table are those that stand in the bytes.
     part_count : length u / 4 ≡ moves_field s
@@ -173,3 +158,44 @@ module _ (s : List ℕ) (good : verdict s ≡ 0) where
         stands = rw (← w.from, ← w.mark, ← w.to) (move_at w.k (omega (arith, w.low)));
         of = w.of;
       }
+
+-- The loop over the moves in fours: what the bytes of move k are below, and what a turn makes of the relation.
+module _ (s : List ℕ) (good : verdict s ≡ 0) {u : List ℕ} {chunks : List (List ℕ)} (part : u ≡ moves_part s)
+    (front : chunks ≡ first_chunks 4 (length u / 4) u) (count : length chunks ≡ length u / 4) (k : ℕ) (l : k < length chunks) where
+  here : k < length (moves_part s) / 4
+  here = rw (← part) (omega (arith, count))
+
+  chunk_byte : (j : ℕ) → j < 4 → get_or (get_or chunks k []) j 0 ≡ byte (moves_part s) (4 * k + j)
+  chunk_byte j m = rw (front, part) (quad_byte (moves_part s) k j [] here m)
+
+  first_byte : get_or (get_or chunks k []) 0 0 ≡ byte (moves_part s) (4 * k)
+  first_byte = chunk_byte 0 (omega arith) ∙ ap (λ (i : ℕ). byte (moves_part s) i) (omega arith)
+
+  pub chunk_bounds : (get_or (get_or chunks k []) 0 0 < 64) × (get_or (get_or chunks k []) 3 0 < 64)
+  chunk_bounds = let b = move_bounds s good {u = moves_part s} refl k here in (rw first_byte b.0, rw (chunk_byte 3 (omega arith)) b.2)
+
+  module _ {kind : Kind} {γ : ℕ} {r : List ℕ} (h : MovesSoFar (parse s) kind γ (moves_part s) k r) where
+    module _ {b : Bool} (test : (eqb (get_or (get_or chunks k []) 2 0) γ && of_kind? (kind_answer s (get_or (get_or chunks k []) 1 0)) kind) ≡ b) where
+      tested : move_of? s (moves_part s) (4 * k) kind γ ≡ b
+      unfolding move_of?
+      tested = ap₂ (λ (x y : ℕ). eqb x γ && of_kind? (kind_answer s y) kind) (sym (chunk_byte 2 (omega arith))) (sym (chunk_byte 1 (omega arith))) ∙ test
+
+      pub chunk_skipped : b ≡ false → MovesSoFar (parse s) kind γ (moves_part s) (k + 1) r
+      chunk_skipped e = moves_skip h (skipped s good {u = moves_part s} refl k kind γ here tested e)
+
+      pub chunk_taken : {z : ℕ} → b ≡ true → z ≡ get_or (get_or chunks k []) 0 0
+          → MovesSoFar (parse s) kind γ (moves_part s) (k + 1) (set r z (bit_or (get_or r z 0) (1 * 2 ^ get_or (get_or chunks k []) 3 0 % 2 ^ 64)))
+      chunk_taken t z =
+          let w = taken s good {u = moves_part s} refl k kind γ here tested t in
+          let b = move_bounds s good {u = moves_part s} refl k here in
+          rw (z, first_byte, chunk_byte 3 (omega arith)) (moves_take h w.0 w.1 b.0 b.2)
+
+-- After the last turn.
+pub chunks_all : (s : List ℕ) → verdict s ≡ 0 → {u : List ℕ} (chunks : List (List ℕ)) → u ≡ moves_part s → length chunks ≡ length u / 4 → {kind : Kind} {γ n : ℕ} {r : List ℕ}
+    → n ≤ length chunks → length chunks ≤ n → MovesSoFar (parse s) kind γ (moves_part s) n r → HoldsExactly r (MoveOf (parse s) kind γ)
+chunks_all s good chunks part count l g h =
+    let long : length chunks ≡ length (moves_part s) / 4 = count ∙ ap (λ (u : List ℕ). length u / 4) part in
+    moves_all s good {u = moves_part s} refl (omega (arith, long, l)) (omega (arith, long, g)) h
+
+pub moves_empty : {r : List ℕ} (t : Table) (kind : Kind) (γ : ℕ) (u : List ℕ) → IsRelation r → HoldsExactly r NoPair → MovesSoFar t kind γ u 0 r
+moves_empty t kind γ u is h = record { is = is; at = λ p q. (λ x. elim ((h.at p q).0 x) [ ], λ w. absurd (omega (arith, w.low))) }

@@ -5,7 +5,7 @@ use Rattle.std.specs.Prelude.{ℕ, ◌+◌, ◌<◌, Bool, false, ◌&&◌, ◌�
 use mathlib.Core.List.{List, Memᴰ}
 use Rattle.std.proofs.Math.Option.{Option, none, some}
 use Rattle.vpa.specs.Automaton.{Kind, plain, opening, closing}
-use Rattle.vpa.specs.TableOnDisk.{Table, entry, state_count, kind_numbered, kind_in, is_kind?, initial?, final?}
+use Rattle.vpa.specs.TableOnDisk.{Table, entry, state_count, kind_in, is_kind?, initial?, final?}
 use Rattle.table.specs.Bytes.{byte}
 use Rattle.table.specs.Calls.{kind_answer}
 use Rattle.table.specs.Layout.{parse}
@@ -25,13 +25,13 @@ pub record MoveOf (t : Table) (kind : Kind) (γ p q : ℕ) : Type 0 where
   pub stands : Memᴰ (entry p letter γ q) t.moves
   pub of : kind_in t letter ≡ kind
 
--- The tests that find one: a letter's kind is the one of this number; and the four bytes at place i are a move by such a letter with this mark.
-unfoldable pub of_kind? : Option Kind → ℕ → Bool
-of_kind? none number = false
-of_kind? (some kind) number = is_kind? kind (kind_numbered number)
+-- The tests that find one: a letter's kind is the one that is asked for; and the four bytes at place i are a move by such a letter with this mark.
+unfoldable pub of_kind? : Option Kind → Kind → Bool
+of_kind? none asked = false
+of_kind? (some kind) asked = is_kind? kind asked
 
-unfoldable pub move_of? : List ℕ → List ℕ → ℕ → ℕ → ℕ → Bool
-move_of? s part i number γ = eqb (byte part (i + 2)) γ && of_kind? (kind_answer s (byte part (i + 1))) number
+unfoldable pub move_of? : List ℕ → List ℕ → ℕ → Kind → ℕ → Bool
+move_of? s part i asked γ = eqb (byte part (i + 2)) γ && of_kind? (kind_answer s (byte part (i + 1))) asked
 
 -- A pair of r between two moves with the mark γ, one of each kind.
 pub record AroundBy (t : Table) (before after : Kind) (r : List ℕ) (γ j l : ℕ) : Type 0 where

@@ -1,21 +1,29 @@
 -- The first pairs, and the search for a pair of an initial and a final state.
-use Prim.Native.Nat.{ℕ, ◌+◌, ◌≤◌}
+use Prim.Native.Nat.{ℕ, ◌+◌, ◌-◌, ◌^◌, ◌≤◌, ◌<◌}
 use mathlib.Core.Bool.{Bool, true, false}
-use mathlib.Core.List.{List}
+use mathlib.Core.List.{List, ◌++◌}
 use mathlib.Core.Logic.{◌↔◌, ◌⊎◌, inl, inr, ⊎_elim}
 use mathlib.Core.Path.{◌≡◌, refl, sym, subst, ◌∙◌}
+use native.Mathlib.Decide.{ℕ_discrete, dec_lt}
 use native.Mathlib.Nat.{eq-or-lt_of_le}
 use native.Mathlib.Omega.{arith}
 use lib.Bits.{bit_or}
 use lib.Dec.{T}
-use lib.ListN.{get_or}
+use lib.ListN.{length, get_or, set, take, drop, replicate, length-set, get_or-append}
+use lib.Seq.{length-take-le, get_or-set_same, get_or-set_other, get_or-drop, get_or-append_right}
 use Rattle.vpa.specs.Reader.{Started, FinishedBlock}
 use Rattle.vpa.specs.TableOnDisk.{Table, state_count, initial?, final?, automaton}
+use Rattle.std.specs.List.{Any, list_any}
+use Rattle.std.proofs.lemmas.List.Folds.{Any-from_list_any, list_any-from_Any}
+use Rattle.vpa.proofs.Lists.{is_true}
 use Rattle.vpa.proofs.TableMoves.{initial_bound}
-use Rattle.relation.specs.Digits.{bit}
-use Rattle.relation.specs.Relations.{Holds, DigitsExactly}
-use Rattle.relation.proofs.Digits.{Drop, Walked, Part, part_all, part_less, part_set, walked_none, walked_all, walked_more}
-use Rattle.relation.proofs.Relations.{no_digit, or_digit}
+use Rattle.table.specs.declared.checked.Checked.{Checked}
+use Rattle.table.proofs.Tables.{good_storable}
+use Rattle.relation.specs.Digits.{bit, ones_of}
+use Rattle.relation.specs.Relations.{Holds, HoldsExactly, DigitsExactly}
+use Rattle.relation.proofs.Digits.{bit_inside}
+use Rattle.relation.proofs.OnesListed.{ones_iff}
+use Rattle.relation.proofs.Relations.{zero_row, no_digit, or_digit}
 use Rattle.pair_sets.specs.Steps.{FromInitial, FinalAmong}
 
 -- A test that came out true, or false.
@@ -25,12 +33,43 @@ holds e = subst T (sym e) tt
 fails : {b : Bool} → b ≡ false → T b → ⊥
 fails e h = subst T e h
 
+-- A table that was checked has no more states than a row has digits.
+pub states_most : (t : Checked) → t.counts.states ≤ 64
+states_most t = omega (arith, t.states, (good_storable _ t.good).states)
+
 -- A row of the first pairs.
 pub started_row : {t : Table} {p : ℕ} (y : ℕ) → ((k : ℕ) → (bit y k ≡ 1) ↔ ((k ≡ p) × T (initial? t k))) → (k : ℕ) → (bit y k ≡ 1) ↔ Started (automaton t) p k
 started_row {t} {p} y h k = (
   λ e. let w = (h k).0 e in record { alone = sym w.0; begins = subst (λ i. T (initial? t i)) w.0 w.1 },
   λ w. (h k).1 (sym w.alone, subst (λ i. T (initial? t i)) w.alone w.begins),
 )
+
+-- The rows of the first n numbers, those below i filled as P says.
+pub record RowsTo (P : ℕ → ℕ → Type 0) (n i : ℕ) (rows : List ℕ) : Type 0 where
+  pub long : length rows ≡ n
+  pub at : (j k : ℕ) → j < i → (bit (get_or rows j 0) k ≡ 1) ↔ P j k
+
+module _ {P : ℕ → ℕ → Type 0} {n : ℕ} where
+  pub to_none : n ≤ 64 → RowsTo P n 0 (take n (replicate 64 0))
+  to_none l = record { long = length-take-le n (replicate 64 0) l; at = λ j k m. absurd (omega arith) }
+
+  pub to_more : {i : ℕ} (y : ℕ) {rows : List ℕ} → i < n → RowsTo P n i rows → ((k : ℕ) → (bit y k ≡ 1) ↔ P i k) → RowsTo P n (i + 1) (set rows i y)
+  to_more {i} y {rows} l h row = record { long = length-set rows i y ∙ h.long; at = λ j k m. go j k m (ℕ_discrete j i) } where
+    go : (j k : ℕ) → j < i + 1 → Dec (j ≡ i) → (bit (get_or (set rows i y) j 0) k ≡ 1) ↔ P j k
+    go j k m (yes e) = rw (e, get_or-set_same rows i y 0 (omega (arith, h.long))) (row k)
+    go j k m (no d) = rw (get_or-set_other rows i j y 0 d) (h.at j k (omega arith))
+
+  -- With zeros after them they are all rows.
+  pub to_all : {i : ℕ} {rows : List ℕ} → n ≤ 64 → n ≤ i → ((j k : ℕ) → P j k → j < n) → RowsTo P n i rows → HoldsExactly (rows ++ drop n (replicate 64 0)) P
+  to_all {i} {rows} l g low h = record { at = λ j k. by j k (dec_lt j n) } where
+    by : (j k : ℕ) → Dec (j < n) → Holds (rows ++ drop n (replicate 64 0)) j k ↔ P j k
+    by j k (yes m) =
+        let e : get_or (rows ++ drop n (replicate 64 0)) j 0 ≡ get_or rows j 0 = get_or-append rows (drop n (replicate 64 0)) 0 j (omega (arith, h.long)) in
+        (λ o. (h.at j k (omega arith)).0 (rw e at o.digit), λ w. record { digit = rw e ((h.at j k (omega arith)).1 w) })
+    by j k (no m) =
+        let e : get_or (rows ++ drop n (replicate 64 0)) j 0 ≡ 0 =
+        get_or-append_right rows (drop n (replicate 64 0)) j 0 (omega (arith, h.long)) ∙ get_or-drop n (replicate 64 0) (j - length rows) 0 ∙ zero_row 64 (n + (j - length rows)) in
+        (λ o. absurd (no_digit k e o.digit), λ w. absurd (m (low j k w)))
 
 -- The second halves of the pairs from initial states, one state after the other.
 module _ {t : Table} {pairs : List ℕ} where
@@ -67,27 +106,17 @@ module _ {t : Table} {pairs : List ℕ} where
   pub from_all : {n m x : ℕ} → m ≤ n → n ≤ m → DigitsExactly x (FromInitial t n pairs) → DigitsExactly x (FromInitial t m pairs)
   from_all {n} {m} {x} l g h = subst (λ i. DigitsExactly x (FromInitial t i pairs)) (omega arith) h
 
--- None of the digits of x walked so far names a final state.
-pub record NoneFinal (t : Table) (x z : ℕ) : Type 0 where
-  pub part : Part x z
-  pub none : (i : ℕ) → Walked x z i → T (final? t i) → ⊥
+-- A digit of x names a final state exactly if one of the list of those that are 1 does.
+module _ {t : Table} {x : ℕ} (fits : x < 2 ^ 64) where
+  pub final_iff : T (list_any (final? t) (ones_of x)) ↔ FinalAmong t x
+  final_iff = (λ h. forth (Any-from_list_any (final? t) (ones_of x) (is_true _ h)), λ w. holds (list_any-from_Any (final? t) (ones_of x) (back w))) where
+    forth : Any (λ p. final? t p ≡ true) (ones_of x) → FinalAmong t x
+    forth (k, p, l, here, e) = record { f = p; among = ((ones_iff x p).0 (k, l, here)).1; ends = holds e }
 
-module _ {t : Table} {x : ℕ} where
-  pub none_yet : NoneFinal t x x
-  none_yet = record { part = part_all x; none = λ i w. absurd (walked_none w) }
-
-  module _ {n z k y : ℕ} {b : Bool} (h : NoneFinal t x z) (d : Drop n z k y) (tested : final? t k ≡ b) where
-    pub none_more : b ≡ false → NoneFinal t x y
-    none_more e = record {
-      part = part_less h.part d;
-      none = λ i w f. ⊎_elim (λ v. h.none i v f) (λ s. fails (tested ∙ e) (subst (λ j. T (final? t j)) s f)) ((walked_more h.part d i).0 w);
-    }
-
-    pub final_here : b ≡ true → FinalAmong t x
-    final_here e = record { f = k; among = part_set h.part d; ends = holds (tested ∙ e) }
-
-  pub none_all : NoneFinal t x 0 → FinalAmong t x → ⊥
-  none_all h w = h.none w.f (walked_all w.among) w.ends
+    back : FinalAmong t x → Any (λ p. final? t p ≡ true) (ones_of x)
+    back w =
+        let m = (ones_iff x w.f).1 (bit_inside 64 x w.f fits w.among, w.among) in
+        (m.0, w.f, m.1, m.2, is_true _ w.ends)
 
 -- A final state among the second halves of the pairs from initial states is what finishes.
 pub finished_iff : {t : Table} {states x : ℕ} {pairs : List ℕ} → state_count t ≤ states → DigitsExactly x (FromInitial t states pairs)

@@ -1,30 +1,34 @@
 -- What a close letter joins: the loops along the moves from a state and over the digits of a row, and the three relations put together.
 use Prim.Native.Nat.{ℕ, ◌+◌, ◌*◌, ◌/◌, ◌%◌, ◌^◌, ◌<◌, ◌≤◌}
 use mathlib.Core.Bool.{true, false, ◌&&◌}
-use mathlib.Core.List.{List}
+use mathlib.Core.List.{List, [], ◌∷◌, ◌++◌}
 use mathlib.Core.Logic.{◌↔◌, inl, inr, ⊎_elim}
-use mathlib.Core.Path.{◌≡◌, refl, sym, ap, subst}
+use mathlib.Core.Path.{◌≡◌, refl, sym, ap, subst, ◌∙◌}
+use native.Mathlib.Decide.{ℕ_discrete}
 use native.Mathlib.Nat.{add-zero}
 use native.Mathlib.Omega.{arith}
 use borrow.Author.Tests.{eqb-true, eqb-false, eq-eqb}
 use lib.Bits.{bit_or}
 use lib.Dec.{eqb}
-use lib.ListN.{length, get_or}
+use lib.ListN.{length, get_or, set, replicate, length-set}
+use lib.Seq.{get_or-set_same, get_or-set_other}
+use Rattle.std.specs.List.{Contains}
+use Rattle.std.proofs.lemmas.List.Elements.{Contains-push, Contains-push_cases, Contains-append_left}
 use Rattle.vpa.specs.Automaton.{opening, closing, open_move, close_move}
 use Rattle.vpa.specs.Reader as reader
-use Rattle.vpa.specs.TableOnDisk.{Table, entry, state_count, kind_in, InTable, in_open, in_close, automaton}
+use Rattle.vpa.specs.TableOnDisk.{Table, entry, kind_in, InTable, in_open, in_close, automaton}
 use Rattle.vpa.proofs.TableMoves.{entry_cast}
 use Rattle.table.specs.Bytes.{byte}
 use Rattle.table.specs.Layout.{moves_part, parse}
 use Rattle.table.specs.Refusals.{verdict}
 use Rattle.table.proofs.All.{both}
 use Rattle.table.proofs.Entries.{move_in}
-use Rattle.table.proofs.Tables.{good_table, good_part_length, move_place}
-use Rattle.relation.specs.Digits.{bit}
+use Rattle.table.proofs.Tables.{good_part_length, move_place}
+use Rattle.relation.specs.Digits.{bit, ones_of}
 use Rattle.relation.specs.Relations.{Holds, HoldsExactly, RowsBelow, Joined, DigitsExactly, InSome}
-use Rattle.relation.proofs.Digits.{bit_zero}
-use Rattle.relation.proofs.Relations.{exactly, row_low, one_digit, or_digit}
-use Rattle.relation.proofs.Walks.{JoinedSoFar, joined_all}
+use Rattle.relation.proofs.Digits.{bit_zero, bit_inside}
+use Rattle.relation.proofs.OnesListed.{ones_iff}
+use Rattle.relation.proofs.Relations.{exactly, row_low, zero_row, no_digit, one_digit, or_digit}
 use Rattle.nesting.proofs.MovesFound.{move_at}
 use Rattle.lengths.specs.Steps.{Chained}
 use Rattle.lengths.proofs.Chains.{Walked, walked_map, walked_none, walked_more, walked_all}
@@ -145,30 +149,36 @@ module _ (z : List ℕ) (good : verdict z ≡ 0) {u : List ℕ} (part : u ≡ mo
           gives = record { by = g.gives.by; closes = rw (g.gives.to, g.gives.mark) (record { by = m.x; among = m.held.digit; closed = m.closed }) };
         }
 
--- OVER THE DIGITS OF A ROW
-
-pub closed_all : {t : Table} {x b γ y : ℕ} → JoinedSoFar x (λ p s. Leads t p b γ s) 0 y → DigitsExactly y (Closes t x b γ)
-closed_all h = record {
-  at = λ s. (
-    λ e. (let w = (joined_all h s).0 e in record { by = w.0; among = w.1; closed = w.2 }),
-    λ c. (joined_all h s).1 (c.by, c.among, c.closed),
-  );
-}
-
 -- THE PAIRS BELOW, THEN THE LINKS
 
--- A row of links, which is asked for where the digit of halves is 1.
-module _ {t : Table} {halves a b q : ℕ} {inside : List ℕ} where
-  pub row_linked : {y : ℕ} → halves / 2 ^ q % 2 ≡ 1 → DigitsExactly y (Linked t a inside b q) → (s : ℕ) → (bit y s ≡ 1) ↔ LinkedFrom t halves a inside b q s
-  unfolding bit
-  row_linked e d s = (λ o. record { from = e; linked = (d.at s).0 o }, λ w. (d.at s).1 w.linked)
+-- The rows of the links from the states xs, and from no other.
+pub record LinkedRows (t : Table) (a : ℕ) (inside : List ℕ) (b : ℕ) (xs rows : List ℕ) : Type 0 where
+  pub long : length rows ≡ 64
+  pub at : (q s : ℕ) → Holds rows q s ↔ (Contains xs q × Linked t a inside b q s)
 
-  pub row_left : (halves / 2 ^ q % 2 ≡ 1 → ⊥) → (s : ℕ) → LinkedFrom t halves a inside b q s → ⊥
-  unfolding bit
-  row_left n s w = n w.from
+module _ {t : Table} {a b : ℕ} {inside : List ℕ} where
+  pub rows_none : LinkedRows t a inside b [] (replicate 64 0)
+  rows_none = record { long = refl; at = λ q s. (λ h. absurd (no_digit s (zero_row 64 q) h.digit), λ w. absurd (omega (arith, w.0.1))) }
 
-pub linked_low : (z : List ℕ) → verdict z ≡ 0 → {halves a b q s : ℕ} {inside : List ℕ} → LinkedFrom (parse z) halves a inside b q s → q < state_count (parse z)
-linked_low z good w = (good_table z good).from _ w.linked.opened.stands
+  pub rows_more : {xs rows : List ℕ} {q y : ℕ} → q < 64 → DigitsExactly y (Linked t a inside b q) → LinkedRows t a inside b xs rows → LinkedRows t a inside b (xs ++ q ∷ []) (set rows q y)
+  rows_more {xs} {rows} {q} {y} l d h = record { long = length-set rows q y ∙ h.long; at = λ p s. go p s (ℕ_discrete p q) } where
+    go : (p s : ℕ) → Dec (p ≡ q) → Holds (set rows q y) p s ↔ (Contains (xs ++ q ∷ []) p × Linked t a inside b p s)
+    go p s (yes e) =
+        let same : get_or (set rows q y) q 0 ≡ y = get_or-set_same rows q y 0 (omega (arith, h.long)) in
+        rw e (λ o. (Contains-push xs q, (d.at s).0 (rw same at o.digit)), λ w. record { digit = rw same ((d.at s).1 w.1) })
+    go p s (no n) =
+        let kept : get_or (set rows q y) p 0 ≡ get_or rows p 0 = get_or-set_other rows q p y 0 n in (
+          λ o. let w = (h.at p s).0 (record { digit = rw kept at o.digit }) in (Contains-append_left xs (q ∷ []) p w.0, w.1),
+          λ w. ⊎_elim (λ m. record { digit = rw kept (((h.at p s).1 (m, w.1)).digit) }) (λ e. absurd (n (sym e))) (Contains-push_cases xs q p w.0),
+        )
+
+  pub rows_all : {halves : ℕ} {rows : List ℕ} → halves < 2 ^ 64 → LinkedRows t a inside b (ones_of halves) rows → HoldsExactly rows (LinkedFrom t halves a inside b)
+  rows_all {halves} fits h = record {
+    at = λ q s. (
+      λ o. let w = (h.at q s).0 o in record { from = ((ones_iff halves q).0 w.0).1; linked = w.1 },
+      λ w. (h.at q s).1 ((ones_iff halves q).1 (bit_inside 64 halves q fits w.from, w.from), w.linked),
+    );
+  }
 
 -- The links are asked for only from where the pairs below end.
 pub joined_links : {t : Table} {n halves a b : ℕ} {below through inside r : List ℕ} → kind_in t a ≡ opening → kind_in t b ≡ closing → RowsBelow n below

@@ -13,18 +13,20 @@ use Rattle.vpa.specs.ReaderComputed.{ReaderState, going, accepted, unfinished, s
 use Rattle.vpa.specs.TableOnDisk.{Table, state_count, automaton}
 use Rattle.vpa.specs.Reader.{Reading, candidate, Going}
 use Rattle.vpa.proofs.ReaderStates.{finish_stopped, heard_going_iff, heard_stop_iff, stop_keeps, step_goes, step_stops}
+use Rattle.std.specs.Prelude.{Result}
+use Rattle.table.specs.declared.refusal.Refusal.{Refusal}
 use Rattle.table.specs.Answers.{Answer, refused, answered}
 use Rattle.table.specs.Bytes.{AreBytes}
 use Rattle.table.specs.Calls.{with_lent}
 use Rattle.table.specs.Layout.{parse}
 use Rattle.table.specs.Refusals.{verdict}
-use Rattle.table.proofs.CallLaws.{once}
+use Rattle.table.proofs.CallLaws.{told_once}
 use Rattle.table.proofs.Lent.{Lent, is_no_table, is_short, is_lent, lent, on_no_table, on_short, on_lent, RefusedFor, lent_refused_iff}
 use Rattle.table.proofs.Tables.{good_storable, good_table}
 use Rattle.relation.specs.Relations.{Holds}
 use Rattle.reader.specs.declared.Heard.{Heard}
 use Rattle.reader.specs.declared.Heard.TheVariants as heards
-use Rattle.reader.specs.Answers.{heard_as}
+use Rattle.reader.specs.Answers.{heard_meant, heard_as}
 use Rattle.reader.specs.Calls.{Reply, reply, with_state, with_legal, begin_on, begin_call, letter_on, letter_call, finish_call, IsState}
 use Rattle.reader.specs.Layout.{state_size, taken_in, state_in, state_words, in_place, depth_in, rows_in, pairs_in, blocks_in, reading_in}
 use Rattle.reader.specs.Refusals.{Broken, legal?, letter_verdict, LetterReason}
@@ -449,23 +451,21 @@ module _ (s words : List ℕ) where
       ) bytes
 
 -- Two outcomes that meet one contract are the same.
-pub heard_once : (r q : Heard) {x : Answer vpa.Heard} → heard_as r ≡ x → heard_as q ≡ x → r ≡ q
-heard_once = once heard_as back back_as where
-  back : Answer vpa.Heard → Heard
-  back (refused k) = heards.Refused k
-  back (answered going) = heards.Going
-  back (answered accepted) = heards.Accepted
-  back (answered unfinished) = heards.Unfinished
-  back (answered (stop_at place)) = heards.Stop place
+pub heard_once : (r q : Result Heard Refusal) {x : Answer vpa.Heard} → heard_as r ≡ x → heard_as q ≡ x → r ≡ q
+heard_once = told_once heard_meant back back_as where
+  back : vpa.Heard → Heard
+  back going = heards.Going
+  back accepted = heards.Accepted
+  back unfinished = heards.Unfinished
+  back (stop_at place) = heards.Stop place
 
-  back_as : (r : Heard) → back (heard_as r) ≡ r
-  back_as (heards.Refused k) = refl
+  back_as : (h : Heard) → back (heard_meant h) ≡ h
   back_as heards.Going = refl
   back_as heards.Accepted = refl
   back_as heards.Unfinished = refl
   back_as (heards.Stop place) = refl
 
-module _ (s words : List ℕ) (r q : Heard) where
+module _ (s words : List ℕ) (r q : Result Heard Refusal) where
   pub begin_once : (o p : List ℕ) → heard_as r ≡ (begin_call s words).answer → heard_as q ≡ (begin_call s words).answer
       → o ≡ (begin_call s words).words → p ≡ (begin_call s words).words → (r ≡ q) × (o ≡ p)
   begin_once o p e d f g = (heard_once r q e d, f ∙ sym g)

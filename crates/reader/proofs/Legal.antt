@@ -4,19 +4,19 @@ use mathlib.Core.Bool.{Bool, true, false, ◌&&◌}
 use mathlib.Core.HLevel.{dec→stable}
 use mathlib.Core.List.{List}
 use mathlib.Core.Logic.{◌↔◌}
-use mathlib.Core.Path.{◌≡◌, refl, sym, ap, subst, ◌∙◌}
+use mathlib.Core.Path.{◌≡◌, refl, sym, subst}
 use native.Mathlib.Decide.{dec_lt}
 use native.Mathlib.Numerals.{add-one}
 use native.Mathlib.Omega.{arith}
 use lib.Dec.{T, eqb, ltb, leb}
 use lib.ListN.{length, get_or, get_or-eq_default}
-use borrow.Author.Tests.{eq-eqb, eqb-true, lt-ltb, ltb-true, leb-true, le-leb}
+use borrow.Author.Tests.{eqb-true, ltb-true, leb-true, le-leb}
 use Rattle.vpa.specs.Automaton.{opening}
 use Rattle.vpa.specs.TableOnDisk.{Table, state_count, letter_count, kind_in, is_kind?}
 use Rattle.vpa.proofs.TableMoves.{kind_eq}
 use Rattle.table.specs.Bytes.{part, all?}
 use Rattle.table.specs.Logs.{longest_log}
-use Rattle.table.proofs.All.{both, and_true, all_more, all_elim, all_intro}
+use Rattle.table.proofs.All.{both, and_true, all_elim, all_intro}
 use Rattle.table.proofs.Parts.{byte_past_part}
 use Rattle.relation.specs.Relations.{Holds, RowsBelow, DigitsExactly, InSome}
 use Rattle.relation.proofs.Relations.{no_digit}
@@ -24,7 +24,7 @@ use Rattle.reader.specs.Layout.{row_count, deepest, state_size, taken_in, depth_
 use Rattle.reader.specs.Refusals.{Broken, many_taken, too_deep, no_flag, first_letter, no_open_letter, no_state, above_depth, leading?, letter_word?, rows?, block?, zeros?, legal?}
 use Rattle.reader.specs.Steps.{Ready}
 use Rattle.reader.proofs.Illegal.{illegal_broken}
-use Rattle.reader.proofs.Numbers.{row_count_lem, state_size_lem}
+use Rattle.reader.proofs.Numbers.{row_count_lem, deepest_is, state_size_lem}
 use Rattle.reader.proofs.Rows.{row_past, rows_told, zeros_told, zeros_tell, zeros_gathered}
 use Rattle.reader.proofs.Words.{rows_length}
 
@@ -48,11 +48,6 @@ module _ (t : Table) where
       let w = both (ltb a (letter_count t)) (is_kind? (kind_in t a) opening) h in
       (ltb-true _ _ w.0, kind_eq _ _ (subst T (sym w.1) tt))
 
-  pub letter_tell : (d : ℕ) {a : ℕ} → (d ≡ 0 → a ≡ 0) → (0 < d → (a < letter_count t) × (kind_in t a ≡ opening)) → letter_word? t d a ≡ true
-  unfolding letter_word? is_kind?
-  letter_tell zero first other = eq-eqb _ _ (first refl)
-  letter_tell (suc d) first other = let w = other (omega arith) in and_true (lt-ltb _ _ w.0) (rw w.1)
-
 -- A block: its letter word and its rows.
 module _ (t : Table) (words : List ℕ) (d : ℕ) where
   pub block_told : block? t words d ≡ true → (letter_word? t d (letter_in words d) ≡ true) × (rows? (state_count t) (rows_in words d) ≡ true)
@@ -74,25 +69,28 @@ module _ (words : List ℕ) where
       let v = both (leb (taken_in words) longest_log) (leb (depth_in words) deepest) w.0 in
       (leb-true _ _ v.0, leb-true _ _ v.1, leb-true _ _ w.1)
 
+  -- The depth is one that a block may have.
+  pub leading_low : leading? words ≡ true → depth_in words ≤ 32
+  leading_low h = omega (arith, (leading_told h).1, deepest_is)
+
   pub leading_tell : taken_in words ≤ longest_log → depth_in words ≤ deepest → stopped_in words ≤ 1 → leading? words ≡ true
   unfolding leading?
   leading_tell taken low stopped = and_true (and_true (le-leb _ _ taken) (le-leb _ _ low)) (le-leb _ _ stopped)
 
--- The blocks one after the other, each told by its words in place.
-and_further : (a b c : Bool) → a && (b && c) ≡ (a && b) && c
-and_further true b c = refl
-and_further false b c = refl
+-- What two tests decide together, where the second is asked only if the first passes.
+pub first_decides : {x a : Bool} (b : Bool) → x ≡ a && b → a ≡ false → x ≡ a
+first_decides {x} b h e = let f : x ≡ false = rw e at h in cc
 
-block_is : (t : Table) (words : List ℕ) (d : ℕ) {n at : ℕ} {a b : Bool} → n ≡ state_count t → block_place d ≡ at
+pub second_decides : {x a b : Bool} → x ≡ a && b → a ≡ true → x ≡ b
+second_decides h e = rw e at h
+
+-- A block is told by its words in place.
+pub block_is : (t : Table) (words : List ℕ) (d : ℕ) {n at : ℕ} {a b : Bool} → n ≡ state_count t → block_place d ≡ at
     → letter_word? t d (get_or words at 0) ≡ a → rows? n (part words (at + 1) ((at + 65) - (at + 1))) ≡ b → block? t words d ≡ a && b
 unfolding block? letter_in rows_in
 block_is t words d {n} {at} e here f g =
     let count : (at + 65) - (at + 1) ≡ 64 = omega arith in
     rw (here, row_count_lem, ← e, ← add-one at, f, rw count at g)
-
-pub blocks_more : (t : Table) (words : List ℕ) (d : ℕ) {n at : ℕ} {ok a b : Bool} → n ≡ state_count t → block_place d ≡ at → all? (block? t words) d ≡ ok
-    → letter_word? t d (get_or words at 0) ≡ a → rows? n (part words (at + 1) ((at + 65) - (at + 1))) ≡ b → all? (block? t words) (d + 1) ≡ (ok && a) && b
-blocks_more t words d {ok = ok} {a} {b} e here h f g = all_more (block? t words) d h ∙ ap (λ (x : Bool). ok && x) (block_is t words d e here f g) ∙ and_further ok a b
 
 -- What is ready: the rows of each block, and the letters of all but the first.
 module _ (t : Table) (words : List ℕ) {depth : ℕ} (ready : Ready t words depth) where
@@ -148,6 +146,10 @@ module _ (t : Table) (words : List ℕ) where
       → DigitsExactly x (InSome words from 2148) → legal? t words ≡ ok && eqb x 0
   unfolding legal?
   legal_tested {ok} {from} h blocks here zeros = rw (h, ← add-one (depth_in words), blocks, here, state_size_lem, zeros_gathered words from 2148 zeros)
+
+  pub legal_stops : leading? words ≡ true → all? (block? t words) (depth_in words + 1) ≡ false → legal? t words ≡ false
+  unfolding legal?
+  legal_stops h blocks = rw (h, ← add-one (depth_in words), blocks)
 
   pub not_leading : leading? words ≡ false → legal? t words ≡ false
   unfolding legal?

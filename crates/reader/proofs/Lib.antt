@@ -8,6 +8,7 @@ pub mod Letters
 pub mod Meeting
 pub mod Numbers
 pub mod Placing
+pub mod Ranges
 pub mod Rows
 pub mod Settling
 pub mod StepParts

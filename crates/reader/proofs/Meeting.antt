@@ -157,9 +157,6 @@ module _ (s words : List ℕ) where
       pub meets_lent : {good : Reply} {answer : Answer Heard} {after : List ℕ} → Meets good answer after → Meets (with_state s words good) answer after
       meets_lent {good} = meets_same (on_lent state_size s words good (λ k. reply (refused k) words) table long)
 
-      pub meets_illegal : (good : Reply) → legal? (parse s) words ≡ false → Meets (with_legal s words good) (refused 14) words
-      meets_illegal good e = meets_lent (meets (rw e))
-
       pub meets_legal : {good : Reply} {answer : Answer Heard} {after : List ℕ} → legal? (parse s) words ≡ true → Meets good answer after → Meets (with_legal s words good) answer after
       meets_legal e h = meets_lent (meets_same (rw e) h)
 

@@ -1,6 +1,7 @@
 -- Words written one after the other from a place on.
 use Prim.Native.Nat.{ℕ, ◌+◌, ◌<◌, ◌≤◌}
-use mathlib.Core.Bool.{cond}
+use mathlib.Core.Bool.{Bool, true, false, cond}
+use mir.Val.{bool_byte}
 use mathlib.Core.List.{List}
 use mathlib.Core.Logic.{inl, inr, ⊎_elim}
 use mathlib.Core.Path.{◌≡◌, refl, ◌∙◌}
@@ -31,6 +32,11 @@ written_more {place} {count} {f} {before} {after} at x here is low h = record {
 -- The count that a loop ends with is the whole one.
 pub written_all : {place : ℕ} (n count : ℕ) {f : ℕ → ℕ} {before after : List ℕ} → n ≤ count → count ≤ n → Written place n f before after → Written place count f before after
 written_all n count l g h = let e : n ≡ count = omega arith in rw e at h
+
+-- Whether a head is stopped, as the library makes it a number.
+pub flag_word : (b : Bool) → bool_byte b ≡ cond b 1 0
+flag_word true = refl
+flag_word false = refl
 
 -- A head, one word for each field.
 pub head_written : (head : Head) (words : List ℕ) {x : ℕ} → 3 ≤ length words → x ≡ cond head.stopped 1 0

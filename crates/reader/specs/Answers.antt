@@ -1,14 +1,19 @@
 -- Document 01, "The reader": what a reader's calls can answer.
+use Rattle.std.specs.Prelude.{Result}
 use Rattle.vpa.specs.ReaderComputed as vpa
 use Rattle.vpa.specs.ReaderComputed.{going, accepted, unfinished, stop_at}
-use Rattle.table.specs.Answers.{Answer, refused, answered}
+use Rattle.table.specs.Answers.{Answer, told}
+use Rattle.table.specs.declared.refusal.Refusal.{Refusal}
 use Rattle.reader.specs.declared.Heard.{Heard}
 use Rattle.reader.specs.declared.Heard.TheVariants as heard
 
--- Of every call of the reader: the refusal, or what is answered, Stop with its place.
-abbrev pub heard_as : Heard → Answer vpa.Heard
-heard_as (heard.Refused number) = refused number
-heard_as heard.Going = answered going
-heard_as heard.Accepted = answered accepted
-heard_as heard.Unfinished = answered unfinished
-heard_as (heard.Stop place) = answered (stop_at place)
+-- What the answers of the code mean, Stop with its place.
+abbrev pub heard_meant : Heard → vpa.Heard
+heard_meant heard.Going = going
+heard_meant heard.Accepted = accepted
+heard_meant heard.Unfinished = unfinished
+heard_meant (heard.Stop place) = stop_at place
+
+-- Of every call of the reader: what is answered, or the refusal's number.
+abbrev pub heard_as : Result Heard Refusal → Answer vpa.Heard
+heard_as = told heard_meant

@@ -4,34 +4,34 @@
 // `whole_log`, which checks once: they ask for what the checks tell. `clear` and `Head::heard` serve it too.
 //
 // Between calls the state is words. Inside, the three leading ones are a `Head`, which each step takes and hands back, and the blocks stay where they are lent.
-#![tactic(auto)]
+#![tactic(auto, using(crate::proofs::Numbers::numbers))]
 
 ghost use Rattle.std.specs.Prelude.{ℕ, suc, ◌+◌, ◌-◌, ◌^◌, ◌<◌, ◌≤◌, eqb, ltb, length, get_or, true, false, cond, List, ◌≡◌};
 ghost use Rattle.vpa.specs.Automaton.{closing};
 ghost use Rattle.vpa.specs.ReaderComputed.{going, stop_at, begin_state, finish_heard};
-ghost use Rattle.vpa.specs.TableOnDisk.{state_count, letter_count, kind_in};
-ghost use Rattle.table.specs.Answers.{answered};
+ghost use Rattle.vpa.specs.TableOnDisk.{kind_in};
+ghost use Rattle.table.specs.Answers.{number_told};
 ghost use Rattle.table.specs.Bytes.{all?};
 ghost use Rattle.table.specs.Layout.{moves_part, parse};
+ghost use Rattle.table.specs.Meaning.{meant};
 ghost use Rattle.table.specs.Logs.{longest_log};
-ghost use Rattle.table.specs.Refusals.{verdict};
 ghost use Rattle.relation.specs.Relations.{IsRelation, RowsBelow, Joined};
 ghost use Rattle.lengths.specs.Steps.{Chained};
 ghost use Rattle.pair_sets.specs.Steps.{ByLetter};
-ghost use Rattle.reader.specs.Answers.{heard_as};
+ghost use Rattle.reader.specs.Answers.{heard_meant, heard_as};
 ghost use Rattle.reader.specs.Calls.{begin_call, letter_call, letter_on, finish_call};
 ghost use Rattle.reader.specs.Layout.{leading, deepest, state_size, taken_in, depth_in, stopped_in, block_place, rows_in, state_in, in_place};
 ghost use Rattle.reader.specs.Refusals.{leading?, letter_word?, rows?, block?, legal?, letter_verdict};
 ghost use Rattle.reader.specs.Steps.{state_with, Ready, Stepped, Written, head_words, letter_rows, OpenedRows, ClosedRows, Extends, Opens, Closes, Settled};
 
-use table::{Checked, KindAt, refusal};
+use pair_sets::Moves;
+use table::{Checked, Kind, Refusal};
 
 pub mod layout;
 
 // What a reader answers. Stop has its place: how many letters were taken until then.
-#[derive(Clone, Copy)]
+#[derive(Clone, Copy, Debug, PartialEq, Eq)]
 pub enum Heard {
-    Refused(u8),
     Going,
     Accepted,
     Unfinished,
@@ -39,7 +39,7 @@ pub enum Heard {
 }
 
 // The leading words: letters taken, depth, whether stopped.
-#[derive(Clone, Copy)]
+#[derive(Clone, Copy, Debug, PartialEq, Eq)]
 pub struct Head {
     pub taken: usize,
     pub depth: usize,
@@ -54,12 +54,12 @@ impl Head {
     {
         Head {
             taken: self.taken + 1,
-            depth: self.depth,
             stopped: false,
+            ..self
         }
     }
 
-    // An open letter is taken.
+    // An open letter is taken. Not one function with `plain` and `close`, which would have to be told the new depth, and what keeps it in bounds.
     fn open(self) -> Head
         requires { (self.taken < longest_log) × (self.depth < deepest) }
         ensures { result ≡ record { taken = self.taken + 1; depth = self.depth + 1; stopped = false } }
@@ -88,15 +88,14 @@ impl Head {
         ensures { result ≡ record { taken = self.taken; depth = self.depth; stopped = true } }
     {
         Head {
-            taken: self.taken,
-            depth: self.depth,
             stopped: true,
+            ..self
         }
     }
 
     // The answer of begin and of a letter.
     pub fn heard(self) -> Heard
-        ensures { heard_as result ≡ answered (cond self.stopped (stop_at self.taken) going) }
+        ensures { heard_meant result ≡ cond self.stopped (stop_at self.taken) going }
     {
         if self.stopped {
             Heard::Stop(self.taken)
@@ -108,67 +107,63 @@ impl Head {
 
 // Begins to read a log on a table. It is stopped at once where no state is initial; on a trimmed table that is where no log is accepted at all:
 // `begin_stops_iff` of proofs/Traces.
-pub fn begin(table: &[u8], state: &mut [u64]) -> Heard
+pub fn begin(table: &[u8], state: &mut [u64]) -> Result<Heard, Refusal>
     ensures result_value { heard_as result ≡ (begin_call table.now state.old).answer }
     ensures state_after { state.new ≡ (begin_call table.now state.old).words }
 {
-    match table::check(table) {
-        Checked::Refused(number) => Heard::Refused(number),
-        Checked::Good(counts) => {
-            if state.len() < layout::STATE {
-                return Heard::Refused(refusal::LENT);
-            }
-            let head = start(table, counts.states, state);
-            head.heard()
-        }
+    // Begins as `letter` and `finish` do: a function for the tests at the start would need a contract longer than they are.
+    let table = Checked::new(table)?;
+    if state.len() < layout::STATE {
+        return Err(Refusal::Lent);
     }
+    Ok(start(&table, state).heard())
 }
 
 // Reads one letter more. Refused, the words are as they were, and a stop changes word 2 alone: `letter_does` of proofs/CallLaws. On a trimmed table a letter stops
 // the reader exactly where no accepted log goes on with it: `stops_iff` of proofs/Traces.
-pub fn letter(table: &[u8], state: &mut [u64], letter: u8) -> Heard
+pub fn letter(table: &[u8], state: &mut [u64], letter: u8) -> Result<Heard, Refusal>
     ensures result_value { heard_as result ≡ (letter_call table.now state.old letter).answer }
     ensures state_after { state.new ≡ (letter_call table.now state.old letter).words }
 {
-    match table::check(table) {
-        Checked::Refused(number) => Heard::Refused(number),
-        Checked::Good(counts) => {
-            if state.len() < layout::STATE {
-                return Heard::Refused(refusal::LENT);
-            }
-            if !is_legal(table, counts.states, state) {
-                return Heard::Refused(refusal::STATE);
-            }
-            read(table, counts.states, counts.letters, state, letter as usize)
-        }
+    let table = Checked::new(table)?;
+    if state.len() < layout::STATE {
+        return Err(Refusal::Lent);
     }
+    let memory = Memory {
+        table: &table,
+        state: &*state,
+    };
+    if !memory.is_legal() {
+        return Err(Refusal::State);
+    }
+    read(&table, state, usize::from(letter))
 }
 
 // Says whether the letters read so far are an accepted log: `trace_accepted_iff` of proofs/Traces.
-pub fn finish(table: &[u8], state: &[u64]) -> Heard
+pub fn finish(table: &[u8], state: &[u64]) -> Result<Heard, Refusal>
     ensures { heard_as result ≡ (finish_call table.now state.now).answer }
 {
-    match table::check(table) {
-        Checked::Refused(number) => Heard::Refused(number),
-        Checked::Good(counts) => {
-            if state.len() < layout::STATE {
-                return Heard::Refused(refusal::LENT);
-            }
-            if !is_legal(table, counts.states, state) {
-                return Heard::Refused(refusal::STATE);
-            }
-            end(table, counts.states, state, head_in(state))
-        }
+    let table = Checked::new(table)?;
+    if state.len() < layout::STATE {
+        return Err(Refusal::Lent);
     }
+    let memory = Memory {
+        table: &table,
+        state,
+    };
+    if !memory.is_legal() {
+        return Err(Refusal::State);
+    }
+    Ok(end(&table, state, head_in(state)))
 }
 
 // Writes the first state.
-pub fn start(table: &[u8], states: usize, state: &mut [u64]) -> Head
-    requires { (verdict table.now ≡ 0) × ((states ≡ state_count (parse table.now)) × (state_size ≤ length state.old)) }
-    ensures value { result ≡ record { taken = 0; depth = 0; stopped = (begin_state (parse table.now)).stopped } }
-    ensures state_after { state.new ≡ in_place (begin_state (parse table.now)) state.old }
+pub fn start(table: &Checked, state: &mut [u64]) -> Head
+    requires { state_size ≤ length state.old }
+    ensures value { result ≡ record { taken = 0; depth = 0; stopped = (begin_state (meant table.now)).stopped } }
+    ensures state_after { state.new ≡ in_place (begin_state (meant table.now)) state.old }
 {
-    let pairs = pair_sets::begun(table, states);
+    let pairs = pair_sets::begun(table);
     let head = Head {
         taken: 0,
         depth: 0,
@@ -181,84 +176,75 @@ pub fn start(table: &[u8], states: usize, state: &mut [u64]) -> Head
 }
 
 // A letter on words that stand for a state.
-fn read(table: &[u8], states: usize, letters: usize, state: &mut [u64], letter: usize) -> Heard
-    requires table_value { (verdict table.now ≡ 0) × ((states ≡ state_count (parse table.now)) × (letters ≡ letter_count (parse table.now))) }
-    requires state_size_in_bounds { (state_size ≤ length state.old) × (legal? (parse table.now) state.old ≡ true) }
-    ensures result_value { heard_as result ≡ (letter_on (parse table.now) state.old (state_in state.old) letter).answer }
-    ensures state_after { state.new ≡ (letter_on (parse table.now) state.old (state_in state.old) letter).words }
+fn read(table: &Checked, state: &mut [u64], letter: usize) -> Result<Heard, Refusal>
+    requires state_size_in_bounds { (state_size ≤ length state.old) × (legal? (meant table.now) state.old ≡ true) }
+    ensures result_value { heard_as result ≡ (letter_on (meant table.now) state.old (state_in state.old) letter).answer }
+    ensures state_after { state.new ≡ (letter_on (meant table.now) state.old (state_in state.old) letter).words }
 {
     let head = head_in(state);
     if head.stopped {
-        return head.heard();
+        return Ok(head.heard());
     }
-    let number = letter_verdict(table, letters, head, letter);
-    if number != 0 {
-        return Heard::Refused(number);
-    }
-    let moves = pair_sets::by_letter(table);
-    let from = lengths::chain(table, lengths::FROM);
-    let next = step(table, states, &moves, &from, state, head, letter);
+    letter_verdict(table, head, letter)?;
+    let rows = pair_sets::by_letter(table.bytes);
+    let from = lengths::chain(table.bytes, lengths::FROM);
+    let moves = Moves { table, from: &from };
+    let next = step(moves, &rows, state, head, letter);
     put_head(state, next);
-    next.heard()
+    Ok(next.heard())
 }
 
-// The number that refuses a letter, or 0.
-pub fn letter_verdict(table: &[u8], letters: usize, head: Head, letter: usize) -> u8
-    requires { letters ≡ letter_count (parse table.now) }
-    ensures { (words : List ℕ) → letter_verdict (parse table.now) (state_with head words) letter ≡ result }
+// Whether a letter may be read; if not, why.
+pub fn letter_verdict(table: &Checked, head: Head, letter: usize) -> Result<(), Refusal>
+    ensures { (words : List ℕ) → letter_verdict (meant table.now) (state_with head words) letter ≡ number_told result }
 {
-    if letter >= letters {
-        return refusal::LETTER;
+    if letter >= table.counts.letters {
+        return Err(Refusal::Letter);
     }
-    if head.taken >= table::LONGEST_LOG {
-        return refusal::LETTERS;
+    let is_full = head.taken >= table::LONGEST_LOG;
+    if is_full {
+        return Err(Refusal::Letters);
     }
-    if head.depth >= layout::DEEPEST {
-        return match table::kind_at(table, letter) {
-            KindAt::Open => refusal::DEPTH,
-            _ => 0,
-        };
+    let is_deepest = head.depth >= layout::DEEPEST;
+    if is_deepest && nesting::is_of_kind(table.bytes, letter, Kind::Open) {
+        return Err(Refusal::Depth);
     }
-    0
+    Ok(())
 }
 
-// What a letter that is not refused makes of a running state.
-pub fn step(
-    table: &[u8],
-    states: usize,
-    moves: &[u64],
-    from: &[usize; lengths::CHAIN],
-    state: &mut [u64],
-    head: Head,
-    letter: usize,
-) -> Head
-    requires table_value { (verdict table.now ≡ 0) × (states ≡ state_count (parse table.now)) }
-    requires by_letter { ByLetter (parse table.now) moves.now × Chained (moves_part table.now) 0 from.now }
-    requires ready { Ready (parse table.now) state.old head.depth × ((head.stopped ≡ false) × (letter_verdict (parse table.now) (state_with head state.old) letter ≡ 0)) }
-    ensures { Stepped (parse table.now) letter head state.old result state.new }
+// What a letter that is not refused makes of a running state. The words and the head stay two arguments: the words are lent, and the head is a new one each time.
+pub fn step(moves: Moves, rows: &[u64], state: &mut [u64], head: Head, letter: usize) -> Head
+    requires by_letter { ByLetter (meant moves.table.now) rows.now }
+    requires ready { Ready (meant moves.table.now) state.old head.depth × ((head.stopped ≡ false) × (letter_verdict (meant moves.table.now) (state_with head state.old) letter ≡ 0)) }
+    ensures { Stepped (meant moves.entry.table.now) letter head state.old result state.new }
 {
-    match table::kind_at(table, letter) {
-        KindAt::Plain => plain(states, moves, state, head, letter),
-        KindAt::Open => open(states, moves, state, head, letter),
-        KindAt::Close => close(table, states, from, state, head, letter),
+    let states = moves.table.counts.states;
+    match table::kind_at(moves.table.bytes, letter) {
+        Some(Kind::Plain) => plain(states, rows_of(rows, letter), state, head),
+        Some(Kind::Open) => open(states, rows_of(rows, letter), state, head, letter),
+        Some(Kind::Close) => close(moves, state, head, letter),
         // Never met: such a letter is refused.
-        KindAt::NoLetter => head.stop(),
+        None => head.stop(),
     }
 }
 
-// A plain letter extends the pairs of the top block.
-fn plain(states: usize, moves: &[u64], state: &mut [u64], head: Head, letter: usize) -> Head
-    requires states_bound { (states ≤ 64) × ((letter < 32) × ((head.depth ≤ deepest) × (head.taken < longest_log))) }
-    requires state_size_in_bounds { (state_size ≤ length state.old) × (RowsBelow states (rows_in state.old head.depth) × (length moves.now ≡ 2048)) }
-    ensures { Settled (Joined (rows_in state.old head.depth) (letter_rows moves.now letter)) (Extends head.depth) head head.depth state.old result state.new }
+// The rows of a letter among those of all letters.
+fn rows_of(rows: &[u64], letter: usize) -> &[u64]
+    requires { (letter < 32) × (length rows.now ≡ 2048) }
+    ensures { (result.now ≡ letter_rows rows.now letter) × (length result.now ≡ 64) }
+{
+    let row = layout::ROWS * letter;
+    &rows[row..row + layout::ROWS]
+}
+
+// A plain letter, which has these rows, extends the pairs of the top block.
+fn plain(states: usize, rows: &[u64], state: &mut [u64], head: Head) -> Head
+    requires states_bound { (states ≤ 64) × ((head.depth ≤ deepest) × (head.taken < longest_log)) }
+    requires state_size_in_bounds { (state_size ≤ length state.old) × (RowsBelow states (rows_in state.old head.depth) × (length rows.now ≡ 64)) }
+    ensures { Settled (Joined (rows_in state.old head.depth) rows.now) (Extends head.depth) head head.depth state.old result state.new }
 {
     let top = place(head.depth) + 1;
-    let row = layout::ROWS * letter;
-    let pairs = relation::join_lent(
-        &state[top..top + layout::ROWS],
-        &moves[row..row + layout::ROWS],
-        states,
-    );
+    let pairs = relation::join_lent(&state[top..top + layout::ROWS], rows, states);
     if relation::is_empty(pairs) {
         return head.stop();
     }
@@ -266,16 +252,15 @@ fn plain(states: usize, moves: &[u64], state: &mut [u64], head: Head, letter: us
     head.plain()
 }
 
-// A new block on top: each state that the letter leads to from a second half, with itself.
-fn open(states: usize, moves: &[u64], state: &mut [u64], head: Head, letter: usize) -> Head
-    requires states_bound { (states ≤ 64) × ((letter < 32) × ((head.depth < deepest) × (head.taken < longest_log))) }
-    requires state_size_in_bounds { (state_size ≤ length state.old) × (RowsBelow states (rows_in state.old head.depth) × (length moves.now ≡ 2048)) }
-    ensures { Settled (OpenedRows (rows_in state.old head.depth) (letter_rows moves.now letter)) (Opens letter head.depth) head (head.depth + 1) state.old result state.new }
+// A new block on top: each state that the letter, which has these rows, leads to from a second half, with itself.
+fn open(states: usize, rows: &[u64], state: &mut [u64], head: Head, letter: usize) -> Head
+    requires states_bound { (states ≤ 64) × ((head.depth < deepest) × (head.taken < longest_log)) }
+    requires state_size_in_bounds { (state_size ≤ length state.old) × (RowsBelow states (rows_in state.old head.depth) × (length rows.now ≡ 64)) }
+    ensures { Settled (OpenedRows (rows_in state.old head.depth) rows.now) (Opens letter head.depth) head (head.depth + 1) state.old result state.new }
 {
     let top = place(head.depth) + 1;
-    let row = layout::ROWS * letter;
     let halves = relation::together(&state[top..top + layout::ROWS], 0, states);
-    let reached = relation::joined_row(halves, &moves[row..row + layout::ROWS]);
+    let reached = relation::joined_row(halves, rows);
     if reached == 0 {
         return head.stop();
     }
@@ -286,27 +271,16 @@ fn open(states: usize, moves: &[u64], state: &mut [u64], head: Head, letter: usi
 }
 
 // A close letter joins the top block to the one below, and clears it.
-fn close(
-    table: &[u8],
-    states: usize,
-    from: &[usize; lengths::CHAIN],
-    state: &mut [u64],
-    head: Head,
-    letter: usize,
-) -> Head
-    requires table_value { (verdict table.now ≡ 0) × ((states ≡ state_count (parse table.now)) × Chained (moves_part table.now) 0 from.now) }
-    requires ready { Ready (parse table.now) state.old head.depth × ((kind_in (parse table.now) letter ≡ closing) × (head.taken < longest_log)) }
-    ensures { Settled (ClosedRows (parse table.now) state.old head.depth letter) (Closes head.depth) head (head.depth - 1) state.old result state.new }
+fn close(moves: Moves, state: &mut [u64], head: Head, letter: usize) -> Head
+    requires { Ready (meant moves.table.now) state.old head.depth × ((kind_in (meant moves.table.now) letter ≡ closing) × (head.taken < longest_log)) }
+    ensures { Settled (ClosedRows (meant moves.entry.table.now) state.old head.depth letter) (Closes head.depth) head (head.depth - 1) state.old result state.new }
 {
     if head.depth == 0 {
         return head.stop();
     }
     let top = place(head.depth);
     let below = place(head.depth - 1);
-    let pairs = pair_sets::joined(
-        table,
-        states,
-        from,
+    let pairs = moves.joined(
         &state[below + 1..below + layout::BLOCK],
         state[top] as usize,
         &state[top + 1..top + layout::BLOCK],
@@ -321,19 +295,19 @@ fn close(
 }
 
 // Whether the letters of a state are an accepted log.
-pub fn end(table: &[u8], states: usize, state: &[u64], head: Head) -> Heard
-    requires table_value { (verdict table.now ≡ 0) × (states ≡ state_count (parse table.now)) }
-    requires ready { Ready (parse table.now) state.now head.depth }
-    ensures { heard_as result ≡ answered (finish_heard (parse table.now) (state_with head state.now)) }
+pub fn end(table: &Checked, state: &[u64], head: Head) -> Heard
+    requires { Ready (meant table.now) state.now head.depth }
+    ensures { heard_meant result ≡ finish_heard (meant table.now) (state_with head state.now) }
 {
     if head.stopped {
         return Heard::Stop(head.taken);
     }
-    if head.depth != 0 {
+    let is_open = head.depth != 0;
+    if is_open {
         return Heard::Unfinished;
     }
     let top = place(0) + 1;
-    if pair_sets::is_accepting(table, states, &state[top..top + layout::ROWS]) {
+    if pair_sets::is_accepting(table, &state[top..top + layout::ROWS]) {
         Heard::Accepted
     } else {
         Heard::Unfinished
@@ -348,7 +322,7 @@ fn place(depth: usize) -> usize
     layout::LEADING + layout::BLOCK * depth
 }
 
-// The head in the leading words.
+// The head in the leading words. No `From`, since it is asked of legal words alone.
 fn head_in(state: &[u64]) -> Head
     requires { (state_size ≤ length state.now) × (leading? state.now ≡ true) }
     ensures { result ≡ record { taken = taken_in state.now; depth = depth_in state.now; stopped = eqb (stopped_in state.now) 1 } }
@@ -366,7 +340,7 @@ fn put_head(state: &mut [u64], head: Head)
 {
     state[0] = head.taken as u64;
     state[1] = head.depth as u64;
-    state[2] = if head.stopped { 1 } else { 0 };
+    state[2] = u64::from(head.stopped);
 }
 
 // Lays rows down in the words from a place on.
@@ -374,9 +348,7 @@ fn store(state: &mut [u64], at: usize, rows: &[u64; 64])
     requires { (at + 64 ≤ length state.old) × IsRelation rows.now }
     ensures { Written at 64 (λ j. get_or rows.now j 0) state.old state.new }
 {
-    for j in 0..layout::ROWS {
-        state[at + j] = rows[j];
-    }
+    state[at..at + layout::ROWS].copy_from_slice(rows);
 }
 
 // Zeros from one place to before another, whatever was there.
@@ -384,45 +356,58 @@ pub fn clear(state: &mut [u64], from: usize, to: usize)
     requires { (from ≤ to) × (to ≤ length state.old) }
     ensures { Written from (to - from) (λ j. 0) state.old state.new }
 {
-    for i in from..to {
-        state[i] = 0;
-    }
+    state[from..to].fill(0);
 }
 
-// Whether the words stand for a state on this table.
-fn is_legal(table: &[u8], states: usize, state: &[u64]) -> bool
-    requires { (verdict table.now ≡ 0) × ((states ≡ state_count (parse table.now)) × (state_size ≤ length state.now)) }
-    ensures { legal? (parse table.now) state.now ≡ result }
-{
-    if is_leading(state) {
-        let depth = state[1] as usize;
-        are_blocks(table, states, state, depth + 1)
-            & (relation::together(state, place(depth + 1), layout::STATE) == 0)
-    } else {
-        false
-    }
+// The words that were lent for a state, beside a table that was checked.
+#[derive(Clone, Copy)]
+struct Memory<'a> {
+    table: &'a Checked<'a>,
+    state: &'a [u64],
+    ghost long: { state_size ≤ length state.now },
 }
 
-fn is_leading(state: &[u64]) -> bool
-    requires { state_size ≤ length state.now }
-    ensures { leading? state.now ≡ result }
-{
-    (state[0] <= table::LONGEST_LOG as u64) & (state[1] <= layout::DEEPEST as u64) & (state[2] <= 1)
-}
-
-// Whether the blocks below a depth are blocks on this table.
-fn are_blocks(table: &[u8], states: usize, state: &[u64], depth: usize) -> bool
-    requires { (verdict table.now ≡ 0) × ((states ≡ state_count (parse table.now)) × ((state_size ≤ length state.now) × (depth ≤ suc deepest))) }
-    ensures { all? (block? (parse table.now) state.now) depth ≡ result }
-{
-    let mut ok = true;
-    for d in 0..depth {
-        let at = place(d);
-        ok = ok
-            & is_letter_word(table, d, state[at])
-            & are_rows(&state[at + 1..at + layout::BLOCK], states);
+impl<'a> Memory<'a> {
+    // Whether the words stand for a state on this table.
+    fn is_legal(self) -> bool
+        ensures { legal? (meant self.entry.table.now) self.entry.state.now ≡ result }
+    {
+        if !self.is_leading() {
+            return false;
+        }
+        let depth = self.state[1] as usize;
+        self.are_blocks(depth + 1)
+            && relation::together(self.state, place(depth + 1), layout::STATE) == 0
     }
-    ok
+
+    fn is_leading(self) -> bool
+        ensures { leading? self.entry.state.now ≡ result }
+    {
+        (self.state[0] <= table::LONGEST_LOG as u64)
+            & (self.state[1] <= layout::DEEPEST as u64)
+            & (self.state[2] <= 1)
+    }
+
+    // Whether the blocks below a depth are blocks on this table.
+    fn are_blocks(self, depth: usize) -> bool
+        requires { depth ≤ suc deepest }
+        ensures { all? (block? (meant self.entry.table.now) self.entry.state.now) depth ≡ result }
+    {
+        (0..depth).all(|d| self.is_block(d))
+    }
+
+    // Whether the block of a depth is one on this table.
+    fn is_block(self, depth: usize) -> bool
+        requires { depth ≤ deepest }
+        ensures { block? (meant self.entry.table.now) self.entry.state.now depth ≡ result }
+    {
+        let at = place(depth);
+        is_letter_word(self.table.bytes, depth, self.state[at])
+            && are_rows(
+                &self.state[at + 1..at + layout::BLOCK],
+                self.table.counts.states,
+            )
+    }
 }
 
 // Whether a block of this depth may have this letter.
@@ -432,10 +417,7 @@ fn is_letter_word(table: &[u8], depth: usize, letter: u64) -> bool
     if depth == 0 {
         letter == 0
     } else {
-        match table::kind_at(table, letter as usize) {
-            KindAt::Open => true,
-            _ => false,
-        }
+        nesting::is_of_kind(table, letter as usize, Kind::Open)
     }
 }
 
@@ -446,7 +428,7 @@ fn are_rows(rows: &[u64], states: usize) -> bool
 {
     let named = relation::together(rows, 0, states);
     let past = relation::together(rows, states, layout::ROWS);
-    is_below(named, states) & (past == 0)
+    is_below(named, states) && past == 0
 }
 
 // Whether no digit from number n on is 1. With n = 64 there is none; a shift has to be by less than the width.
@@ -454,5 +436,5 @@ fn is_below(x: u64, n: usize) -> bool
     requires { n ≤ 64 }
     ensures { ltb x (2 ^ n) ≡ result }
 {
-    if n < 64 { (x >> n) == 0 } else { true }
+    n >= 64 || x >> n == 0
 }

@@ -4,7 +4,7 @@ use mathlib.Core.Logic.{◌↔◌, ◌⊎◌, inl, inr, ⊎_elim}
 use mathlib.Core.Path.{◌≡◌, refl, sym, ap, ◌∙◌}
 use native.Mathlib.Decide.{ℕ_discrete, dec_lt}
 use native.Mathlib.Nat.{div-one, one-mul, mod-eq_of_lt, pow-suc, eq-or-lt_of_le, le_of_suc-le-suc}
-use native.Mathlib.Numerals.{one-add, add-one}
+use native.Mathlib.Numerals.{one-add}
 use native.Mathlib.Omega.{arith}
 use lib.Bits.{bit_or, bit_and, bit_xor, differ, or_step, and_step, xor_step, or_shr, and_shr, xor_shr, and_self, xor_comm}
 use lib.Count.{ones, ones_step, count_trailing_zeros, under}
@@ -214,10 +214,6 @@ pub ones_total : (n x : ℕ) → x < 2 ^ n → ones x ≡ total n (bit x)
 unfolding total ones
 ones_total zero x h = let e : x ≡ 0 = omega arith in rw e
 ones_total (suc n) x h = ones_step x ∙ ap (λ (y : ℕ). x % 2 + y) (ones_total n (x / 2) (half_lt x n h)) ∙ sym (total_low n x)
-
-pub total_more : (n : ℕ) (f : ℕ → ℕ) → total (n + 1) f ≡ total n f + f n
-unfolding total
-total_more n f = rw add-one (omega arith)
 
 -- Sums of numbers: a bound for each is one for their sum; more in each place, more in all, and no more in all, no more in any.
 pub total_most : (n most : ℕ) (f : ℕ → ℕ) → ((k : ℕ) → k < n → f k ≤ most) → total n f ≤ most * n

@@ -1,4 +1,5 @@
 pub mod Digits
+pub mod OnesListed
 pub mod Owned
 pub mod Relations
 pub mod RowsOf

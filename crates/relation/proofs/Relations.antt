@@ -4,10 +4,12 @@ use mathlib.Core.List.{List}
 use mathlib.Core.Logic.{◌↔◌, ◌⊎◌, inl, inr, ⊎_elim}
 use mathlib.Core.Path.{◌≡◌, refl, sym, ap, ◌∙◌}
 use native.Mathlib.Decide.{ℕ_discrete, dec_lt}
+use native.Mathlib.Nat.{zero-mul}
 use native.Mathlib.Omega.{arith}
-use lib.Bits.{bit_or, bit_and, or_lt, and_le_l}
-use lib.Dec.{T, eqb→eq}
-use lib.ListN.{get_or, set, replicate, length-set, get_or-eq_default}
+use lib.Bits.{bit_or, bit_and, or_lt}
+use lib.Dec.{T, eqb→eq, ltb}
+use Rattle.std.proofs.Common.{Bool, true, false, cond, lt-ltb, ltb-true, true≢false}
+use lib.ListN.{length, get_or, set, replicate, length-set, get_or-eq_default}
 use lib.Pow.{pow-lt}
 use lib.Seq.{ext_get_or, get_or-set_same, get_or-set_other}
 use Rattle.relation.specs.Digits.{bit, total}
@@ -110,10 +112,6 @@ zero_row (suc n) (suc j) = zero_row n j
 pub no_digit : {x : ℕ} (k : ℕ) → x ≡ 0 → bit x k ≡ 1 → ⊥
 no_digit {x} k z e = omega (arith, ap (λ (y : ℕ). bit y k) z, bit_zero k)
 
--- Of all rows there is none past the last.
-pub all_rows : {r : List ℕ} → IsRelation r → RowsBelow 64 r
-all_rows {r} is = record { rows = is.rows; past = λ j l. get_or-eq_default r 0 (omega (arith, is.rows)) }
-
 -- A pair that is held begins below where the rows end.
 pub row_low : {n : ℕ} {r : List ℕ} → RowsBelow n r → {j k : ℕ} → Holds r j k → j < n
 row_low {n} {r} below {j} {k} h = by (dec_lt j n) where
@@ -161,20 +159,23 @@ either_row r s j k = (
   λ e. (or_digit _ _ k).1 (⊎_elim (λ h. inl h.digit) (λ h. inr h.digit) e.is),
 )
 
-pub either_fits : {r s : List ℕ} → IsRelation r → IsRelation s → (j : ℕ) → bit_or (get_or r j 0) (get_or s j 0) < 2 ^ 64
-either_fits a b j = or_lt 64 _ _ (a.fits j) (b.fits j)
-
 pub both_row : (r s : List ℕ) (j k : ℕ) → (bit (bit_and (get_or r j 0) (get_or s j 0)) k ≡ 1) ↔ Both r s j k
 both_row r s j k = (
   λ e. let d = (and_digit _ _ k).0 e in record { first = record { digit = d.0 }; second = record { digit = d.1 } },
   λ e. (and_digit _ _ k).1 (e.first.digit, e.second.digit),
 )
 
-pub both_fits : {r : List ℕ} (s : List ℕ) → IsRelation r → (j : ℕ) → bit_and (get_or r j 0) (get_or s j 0) < 2 ^ 64
-both_fits {r} s a j = omega (arith, a.fits j, and_le_l (get_or r j 0) (get_or s j 0))
-
 pub identity_row : {n j : ℕ} → j < 64 → j < n → (k : ℕ) → (bit (1 * 2 ^ j % 2 ^ 64) k ≡ 1) ↔ Identity n j k
 identity_row l m k = (λ e. record { same = sym ((one_digit l k).0 e); low = m }, λ e. (one_digit l k).1 (sym e.same))
+
+pub identity_rows : (n : ℕ) {j : ℕ} → j < 64 → (k : ℕ) → (bit (cond (ltb j n) 1 0 * 2 ^ j % 2 ^ 64) k ≡ 1) ↔ Identity n j k
+identity_rows n {j} l k = go (ltb j n) refl where
+  nothing : 0 * 2 ^ j % 2 ^ 64 ≡ 0
+  nothing = rw (zero-mul (2 ^ j)) refl
+
+  go : (b : Bool) → ltb j n ≡ b → (bit (cond b 1 0 * 2 ^ j % 2 ^ 64) k ≡ 1) ↔ Identity n j k
+  go true e = identity_row l (ltb-true _ _ e) k
+  go false e = (λ d. absurd (omega (arith, bit_zero k, ap (λ (v : ℕ). bit v k) nothing)), λ d. absurd (true≢false (sym (lt-ltb _ _ d.low) ∙ e)))
 
 pub diagonal_row : {j : ℕ} (x : ℕ) → j < 64 → (k : ℕ) → (bit (bit_and x (1 * 2 ^ j % 2 ^ 64)) k ≡ 1) ↔ Diagonal x j k
 diagonal_row {j} x l k = (
@@ -207,6 +208,13 @@ module _ {r : List ℕ} (is : IsRelation r) {a b : ℕ} (ha : a < 64) (hb : b < 
         let e : get_or more j 0 ≡ get_or r j 0 = get_or-set_other r a j _ 0 p in
         (λ h. record { is = inl (record { digit = rw e at h.digit }) }, λ w. record { digit = rw e (⊎_elim (λ h. h.digit) (λ q. absurd (p q.0)) w.is) })
 
+-- 64 rows, each with the digits that P says: nothing that P says lies past them.
+pub held_by_rows : {P : ℕ → ℕ → Type 0} {s : List ℕ} → length s ≡ 64 → ((j k : ℕ) → P j k → j < 64) → ((j k : ℕ) → j < 64 → (bit (get_or s j 0) k ≡ 1) ↔ P j k) → HoldsExactly s P
+held_by_rows {P} {s} long low row = record { at = λ j k. (λ x. forth j k x (dec_lt j 64), λ p. record { digit = (row j k (low j k p)).1 p }) } where
+  forth : (j k : ℕ) → Holds s j k → Dec (j < 64) → P j k
+  forth j k x (yes l) = (row j k l).0 x.digit
+  forth j k x (no l) = absurd (omega (arith, x.digit, bit_zero k, ap (λ (v : ℕ). bit v k) (get_or-eq_default s 0 {n = j} (omega (arith, long)))))
+
 -- An array of zeros filled row by row: below n row j holds the pairs (j, k) that P says, and from n on nothing is held.
 pub record Built (P : ℕ → ℕ → Type 0) (n : ℕ) (s : List ℕ) : Type 0 where
   pub is : IsRelation s
@@ -215,6 +223,9 @@ pub record Built (P : ℕ → ℕ → Type 0) (n : ℕ) (s : List ℕ) : Type 0 
 
 pub built_none : (P : ℕ → ℕ → Type 0) → Built P 0 (replicate 64 0)
 built_none P = record { is = zeros_relation; at = λ j k l. absurd (omega arith); past = λ j k l h. elim ((zeros_hold.at j k).0 h) [ ] }
+
+pub built_empty : {s : List ℕ} (P : ℕ → ℕ → Type 0) → IsRelation s → HoldsExactly s NoPair → Built P 0 s
+built_empty P is h = record { is = is; at = λ j k l. absurd (omega arith); past = λ j k l x. elim ((h.at j k).0 x) [ ] }
 
 pub built_more : {P : ℕ → ℕ → Type 0} {n : ℕ} {s : List ℕ} {y : ℕ} → y < 2 ^ 64 → n < 64 → Built P n s → ((k : ℕ) → (bit y k ≡ 1) ↔ P n k) → Built P (n + 1) (set s n y)
 built_more {P} {n} {s} {y} f l h r = record {

@@ -1,17 +1,22 @@
 -- What the loops over rows and over the digits of a row hold on to.
-use Prim.Native.Nat.{ℕ, zero, suc, ◌+◌, ◌*◌, ◌%◌, ◌^◌, ◌≤◌, ◌<◌}
-use mathlib.Core.List.{List}
+use Prim.Native.Nat.{ℕ, zero, suc, ◌+◌, ◌-◌, ◌*◌, ◌%◌, ◌^◌, ◌≤◌, ◌<◌}
+use mathlib.Core.List.{List, [], ◌∷◌, ◌++◌}
 use mathlib.Core.Logic.{◌↔◌, ◌⊎◌, inl, inr, ⊎_elim}
 use mathlib.Core.Path.{◌≡◌, refl, sym, ap, subst, ◌∙◌}
 use native.Mathlib.Nat.{eq-or-lt_of_le, pow-suc}
 use native.Mathlib.Omega.{arith}
 use lib.Bits.{bit_or}
 use lib.Count.{ones, count_trailing_zeros}
-use lib.ListN.{get_or, set, replicate}
-use Rattle.relation.specs.Digits.{bit, total}
+use lib.ListN.{length, get_or, set, replicate, drop}
+use Rattle.std.proofs.Common.{length-take-le, length-drop, get_or-take, get_or-drop}
+use Rattle.std.proofs.lemmas.List.Sums.{sum_by-cons}
+use Rattle.std.specs.List.{Contains, fold, sum_by, slice_range}
+use Rattle.std.proofs.lemmas.List.Elements.{Contains-append_left, Contains-push, Contains-push_cases}
+use Rattle.relation.specs.Digits.{bit, total, ones_of}
 use Rattle.relation.specs.Relations.{Holds, HoldsExactly, IsRelation, With, Joined, Turned, DigitsExactly, InSome, SecondHalf, size_of}
 use Rattle.relation.specs.Rows.{Reached, Spread}
-use Rattle.relation.proofs.Digits.{bit_zero, Drop, lowest, Walked, Part, part_all, walked_none, walked_all, part_less, walked_more, ones_total, total_more}
+use Rattle.relation.proofs.OnesListed.{ones_iff}
+use Rattle.relation.proofs.Digits.{bit_zero, bit_inside, Drop, lowest, Walked, Part, part_all, walked_none, walked_all, part_less, walked_more, ones_total, total_equal}
 use Rattle.relation.proofs.Relations.{holds_inside, zeros_relation, zeros_hold, or_digit, with_relation, with_pair}
 
 -- y has what the digits of x walked so far give: digit i gives each l of which P says so.
@@ -43,14 +48,6 @@ joined_all h l = (λ e. let w = (h.at l).0 e in (w.0, w.1.had, w.2), λ w. (h.at
 pub row_digits : (s : List ℕ) (k : ℕ) → DigitsExactly (get_or s k 0) (Holds s k)
 row_digits s k = record { at = λ l. (λ e. record { digit = e }, λ h. h.digit) }
 
-pub reached_all : {x : ℕ} {s : List ℕ} {y : ℕ} → JoinedSoFar x (Holds s) 0 y → DigitsExactly y (Reached x s)
-reached_all h = record {
-  at = λ l. (
-    λ e. (let w = (joined_all h l).0 e in record { by = w.0; first = w.1; second = w.2 }),
-    λ w. (joined_all h l).1 (w.by, w.first, w.second),
-  );
-}
-
 -- A joined row is a row of two relations joined.
 pub joined_digits : {r s : List ℕ} {j y : ℕ} → DigitsExactly y (Reached (get_or r j 0) s) → (k : ℕ) → (bit y k ≡ 1) ↔ Joined r s j k
 joined_digits h k = (
@@ -58,40 +55,37 @@ joined_digits h k = (
   λ w. (h.at k).1 (record { by = w.by; first = w.first.digit; second = w.second }),
 )
 
--- s is r with the pairs (i, j) for the digits i of x walked so far.
-pub record SpreadSoFar (r : List ℕ) (x j z : ℕ) (s : List ℕ) : Type 0 where
-  pub part : Part x z
+-- s is r with the pairs (i, j) for the numbers i that have come.
+pub record SpreadBy (r : List ℕ) (xs : List ℕ) (j : ℕ) (s : List ℕ) : Type 0 where
   pub is : IsRelation s
-  pub at : (a b : ℕ) → Holds s a b ↔ (Holds r a b ⊎ (Walked x z a × (b ≡ j)))
+  pub at : (a b : ℕ) → Holds s a b ↔ (Holds r a b ⊎ (Contains xs a × (b ≡ j)))
 
-pub spread_none : {r : List ℕ} (x j : ℕ) → IsRelation r → SpreadSoFar r x j x r
-spread_none x j is = record { part = part_all x; is = is; at = λ a b. (inl, ⊎_elim (λ h. h) (λ w. absurd (walked_none w.0))) }
+pub spread_nothing : {r : List ℕ} (j : ℕ) → IsRelation r → SpreadBy r [] j r
+spread_nothing j is = record { is = is; at = λ a b. (inl, ⊎_elim (λ h. h) (λ w. absurd (omega (arith, w.0.1)))) }
 
-pub spread_more : {r : List ℕ} {x j z : ℕ} {s : List ℕ} {k z' : ℕ} → j < 64 → SpreadSoFar r x j z s → Drop 64 z k z'
-    → SpreadSoFar r x j z' (set s k (bit_or (get_or s k 0) (1 * 2 ^ j % 2 ^ 64)))
-spread_more {r} {x} {j} {z} {s} {k} {z'} hj h d = record {
-  part = part_less h.part d;
-  is = with_relation h.is d.low hj;
+pub spread_next : {r xs s : List ℕ} {j k : ℕ} → j < 64 → k < 64 → SpreadBy r xs j s → SpreadBy r (xs ++ k ∷ []) j (set s k (bit_or (get_or s k 0) (1 * 2 ^ j % 2 ^ 64)))
+spread_next {r} {xs} {s} {j} {k} hj hk h = record {
+  is = with_relation h.is hk hj;
   at = λ a b. (λ e. forth a b ((put.at a b).0 e).is, λ e. (put.at a b).1 (record { is = back a b e }));
 }
   where
     put : HoldsExactly (set s k (bit_or (get_or s k 0) (1 * 2 ^ j % 2 ^ 64))) (With s k j)
-    put = with_pair h.is d.low hj
+    put = with_pair h.is hk hj
 
-    forth : (a b : ℕ) → Holds s a b ⊎ ((a ≡ k) × (b ≡ j)) → Holds r a b ⊎ (Walked x z' a × (b ≡ j))
-    forth a b (inl e) = ⊎_elim inl (λ w. inr ((walked_more h.part d a).1 (inl w.0), w.1)) ((h.at a b).0 e)
-    forth a b (inr e) = inr ((walked_more h.part d a).1 (inr e.0), e.1)
+    forth : (a b : ℕ) → Holds s a b ⊎ ((a ≡ k) × (b ≡ j)) → Holds r a b ⊎ (Contains (xs ++ k ∷ []) a × (b ≡ j))
+    forth a b (inl e) = ⊎_elim inl (λ w. inr (Contains-append_left xs (k ∷ []) a w.0, w.1)) ((h.at a b).0 e)
+    forth a b (inr e) = inr (rw e.0 (Contains-push xs k), e.1)
 
-    back : (a b : ℕ) → Holds r a b ⊎ (Walked x z' a × (b ≡ j)) → Holds s a b ⊎ ((a ≡ k) × (b ≡ j))
+    back : (a b : ℕ) → Holds r a b ⊎ (Contains (xs ++ k ∷ []) a × (b ≡ j)) → Holds s a b ⊎ ((a ≡ k) × (b ≡ j))
     back a b (inl e) = inl ((h.at a b).1 (inl e))
-    back a b (inr w) = ⊎_elim (λ v. inl ((h.at a b).1 (inr (v, w.1)))) (λ e. inr (e, w.1)) ((walked_more h.part d a).0 w.0)
+    back a b (inr w) = ⊎_elim (λ m. inl ((h.at a b).1 (inr (m, w.1)))) (λ e. inr (sym e, w.1)) (Contains-push_cases xs k a w.0)
 
-pub spread_all : {r : List ℕ} {x j : ℕ} {s : List ℕ} → SpreadSoFar r x j 0 s → Spread r x j s
-spread_all h = record {
+pub spread_whole : {r s : List ℕ} {x j : ℕ} → x < 2 ^ 64 → SpreadBy r (ones_of x) j s → Spread r x j s
+spread_whole {r} {s} {x} {j} f h = record {
   is = h.is;
   at = λ a b. (
-    λ e. ⊎_elim inl (λ w. inr (w.0.had, w.1)) ((h.at a b).0 e),
-    λ e. (h.at a b).1 (⊎_elim inl (λ w. inr (walked_all w.0, w.1)) e),
+    λ e. ⊎_elim inl (λ w. inr (((ones_iff x a).0 w.0).1, w.1)) ((h.at a b).0 e),
+    λ e. (h.at a b).1 (⊎_elim inl (λ w. inr ((ones_iff x a).1 (bit_inside 64 x a f w.0, w.0), w.1)) e),
   );
 }
 
@@ -122,21 +116,38 @@ turned_all l is h = record {
 }
 
 -- Words put together one after the other.
-pub gathered_none : (words : List ℕ) (from : ℕ) → DigitsExactly 0 (InSome words from from)
-gathered_none words from = record { at = λ k. (λ e. absurd (omega (arith, bit_zero k)), λ w. absurd (omega (arith, w.after, w.before))) }
+pub gathered : (words : List ℕ) (y k : ℕ) → (bit (fold bit_or y words) k ≡ 1) ↔ ((bit y k ≡ 1) ⊎ ((i : ℕ) × (i < length words) × (bit (get_or words i 0) k ≡ 1)))
+gathered [] y k = (inl, ⊎_elim (λ e. e) (λ w. absurd (omega (arith, w.1))))
+gathered (x ∷ words) y k = (
+  λ e. ⊎_elim (λ d. ⊎_elim inl (λ d. inr (0, omega arith, d)) ((or_digit y x k).0 d)) (λ w. inr (suc w.0, omega (arith, w.1), w.2)) ((gathered words (bit_or y x) k).0 e),
+  λ w. (gathered words (bit_or y x) k).1 (⊎_elim (λ d. inl ((or_digit y x k).1 (inl d))) (λ v. later v.0 v.1 v.2) w),
+)
+  where
+    later : (i : ℕ) → i < length (x ∷ words) → bit (get_or (x ∷ words) i 0) k ≡ 1 → (bit (bit_or y x) k ≡ 1) ⊎ ((i : ℕ) × (i < length words) × (bit (get_or words i 0) k ≡ 1))
+    later zero l d = inl ((or_digit y x k).1 (inr d))
+    later (suc i) l d = inr (i, omega (arith, l), d)
 
-pub gathered_more : {words : List ℕ} {from n y : ℕ} → from ≤ n → DigitsExactly y (InSome words from n) → DigitsExactly (bit_or y (get_or words n 0)) (InSome words from (n + 1))
-gathered_more {words} {from} {n} {y} l h = record {
-  at = λ k. (λ e. forth k ((or_digit _ _ k).0 e), λ w. (or_digit _ _ k).1 (back k w (eq-or-lt_of_le (omega (arith, w.before)))));
+pub gathered_range : (words : List ℕ) {from to : ℕ} → from ≤ to → to ≤ length words → DigitsExactly (fold bit_or 0 (slice_range words from to)) (InSome words from to)
+gathered_range words {from} {to} l m = record {
+  at = λ k. (
+    λ e. ⊎_elim (λ d. absurd (omega (arith, d, bit_zero k))) (λ w. forth k w.0 w.1 w.2) ((gathered (slice_range words from to) 0 k).0 e),
+    λ w. (gathered (slice_range words from to) 0 k).1 (inr (w.place - from, omega (arith, long, w.before, w.after), back k w)),
+  );
 }
   where
-    forth : (k : ℕ) → (bit y k ≡ 1) ⊎ (bit (get_or words n 0) k ≡ 1) → InSome words from (n + 1) k
-    forth k (inl e) = let w = (h.at k).0 e in record { place = w.place; after = w.after; before = omega (arith, w.before); digit = w.digit }
-    forth k (inr e) = record { place = n; after = l; before = omega arith; digit = e }
+    long : length (slice_range words from to) ≡ to - from
+    long = length-take-le (to - from) (drop from words) (omega (arith, length-drop from words))
 
-    back : (k : ℕ) (w : InSome words from (n + 1) k) → (w.place ≡ n) ⊎ (w.place < n) → (bit y k ≡ 1) ⊎ (bit (get_or words n 0) k ≡ 1)
-    back k w (inl e) = inr (rw (← e) w.digit)
-    back k w (inr g) = inl ((h.at k).1 (record { place = w.place; after = w.after; before = g; digit = w.digit }))
+    same : (i : ℕ) → i < to - from → get_or (slice_range words from to) i 0 ≡ get_or words (from + i) 0
+    same i h = get_or-take (to - from) (drop from words) i 0 h ∙ get_or-drop from words i 0
+
+    forth : (k i : ℕ) → i < length (slice_range words from to) → bit (get_or (slice_range words from to) i 0) k ≡ 1 → InSome words from to k
+    forth k i h d = record { place = from + i; after = omega arith; before = omega (arith, long); digit = ap (λ (x : ℕ). bit x k) (sym (same i (omega (arith, long)))) ∙ d }
+
+    back : (k : ℕ) (w : InSome words from to k) → bit (get_or (slice_range words from to) (w.place - from) 0) k ≡ 1
+    back k w =
+        let at : from + (w.place - from) ≡ w.place = omega (arith, w.after) in
+        ap (λ (x : ℕ). bit x k) (same (w.place - from) (omega (arith, w.before, w.after)) ∙ ap (λ (i : ℕ). get_or words i 0) at) ∙ w.digit
 
 pub gathered_all : {r : List ℕ} {n y : ℕ} → 64 ≤ n → IsRelation r → DigitsExactly y (InSome r 0 n) → DigitsExactly y (SecondHalf r)
 gathered_all l is h = record {
@@ -154,20 +165,18 @@ below_pow (suc x) = omega (arith, below_pow x, pow-suc 2 x)
 pub some_digit : (x : ℕ) → (x ≡ 0 → ⊥) → (k : ℕ) × (bit x k ≡ 1)
 some_digit x n = (count_trailing_zeros x x, (lowest x x (omega (arith, n)) (below_pow x)).set)
 
--- The first n rows hold m pairs.
-pub record SizeSoFar (r : List ℕ) (n m : ℕ) : Type 0 where
-  pub is : total n (λ j. total 64 (bit (get_or r j 0))) ≡ m
-
-pub size_none : (r : List ℕ) → SizeSoFar r 0 0
+-- The digits of all words, counted.
+total_first : (n : ℕ) (f : ℕ → ℕ) → total (suc n) f ≡ f 0 + total n (λ i. f (suc i))
 unfolding total
-size_none r = record { is = refl }
+total_first zero f = refl
+total_first (suc n) f = omega (arith, total_first n f)
 
-pub size_more : {r : List ℕ} {n m : ℕ} → IsRelation r → SizeSoFar r n m → SizeSoFar r (n + 1) (m + ones (get_or r n 0))
-size_more {r} {n} {m} is h = record {
-  is = total_more n _ ∙ ap (λ (y : ℕ). total n (λ j. total 64 (bit (get_or r j 0))) + y) (sym (ones_total 64 (get_or r n 0) (is.fits n)))
-      ∙ ap (λ (y : ℕ). y + ones (get_or r n 0)) h.is;
-}
+sum_total : (h : ℕ → ℕ) (xs : List ℕ) → sum_by h xs ≡ total (length xs) (λ j. h (get_or xs j 0))
+unfolding total
+sum_total h [] = refl
+sum_total h (x ∷ xs) = sum_by-cons h x xs ∙ ap (λ (n : ℕ). h x + n) (sum_total h xs) ∙ sym (total_first (length xs) (λ j. h (get_or (x ∷ xs) j 0)))
 
-pub size_all : {r : List ℕ} {m : ℕ} → SizeSoFar r 64 m → size_of r ≡ m
+pub size_sum : {r : List ℕ} → IsRelation r → size_of r ≡ sum_by ones r
 unfolding size_of
-size_all h = h.is
+size_sum {r} is =
+    total_equal 64 _ _ (λ j l. sym (ones_total 64 (get_or r j 0) (is.fits j))) ∙ ap (λ (n : ℕ). total n (λ j. ones (get_or r j 0))) (sym is.rows) ∙ sym (sum_total ones r)

@@ -5,8 +5,37 @@
 #![tactic(auto)]
 
 ghost use Rattle.std.specs.Prelude.{ℕ, ◌<◌, ◌≤◌, length, ◌≡◌};
+ghost use Rattle.std.specs.Iterator.{YieldsFirst, item_count};
+ghost use Rattle.relation.specs.Digits.{ones_of};
 ghost use Rattle.relation.specs.Relations.{Holds, holds?, HoldsExactly, IsRelation, RowsBelow, NoPair, Identity, Diagonal, With, Joined, Either, Both, Turned, DigitsExactly, InSome, SecondHalf, TellsNone, size_of};
 ghost use Rattle.relation.specs.Rows.{Reached, Spread};
+
+// The places of the digits of a word that are 1, from the lowest on: what is held is the word with those that are still to come.
+#[derive(Drop)]
+pub struct Ones(u64);
+
+impl Iterator for Ones {
+    type Item = usize;
+
+    ghost next_gives = { YieldsFirst (λ s. ones_of s.0) };
+
+    ghost remaining = { item_count (λ s. ones_of s.0) };
+
+    fn next(&mut self) -> Option<usize> {
+        if self.0 == 0 {
+            return None;
+        }
+        let lowest = self.0.trailing_zeros() as usize;
+        self.0 &= self.0 - 1;
+        Some(lowest)
+    }
+}
+
+pub fn ones_of(x: u64) -> Ones
+    ensures { ones_of result.0 ≡ ones_of x }
+{
+    Ones(x)
+}
 
 // No pair.
 pub fn empty() -> [u64; 64]
@@ -20,11 +49,7 @@ pub fn identity(n: usize) -> [u64; 64]
     requires { n ≤ 64 }
     ensures { HoldsExactly result (Identity n) }
 {
-    let mut r = [0u64; 64];
-    for j in 0..n {
-        r[j] = 1u64 << j;
-    }
-    r
+    std::array::from_fn(|j| u64::from(j < n) << j)
 }
 
 pub fn has(r: &[u64; 64], j: usize, k: usize) -> bool
@@ -38,11 +63,7 @@ pub fn has(r: &[u64; 64], j: usize, k: usize) -> bool
 pub fn diagonal(x: u64) -> [u64; 64]
     ensures { HoldsExactly result (Diagonal x) }
 {
-    let mut t = [0u64; 64];
-    for j in 0..64 {
-        t[j] = x & (1u64 << j);
-    }
-    t
+    std::array::from_fn(|j| x & (1u64 << j))
 }
 
 // The pairs of r, and (j, k).
@@ -51,7 +72,7 @@ pub fn put(r: [u64; 64], j: usize, k: usize) -> [u64; 64]
     ensures { HoldsExactly result (With r j k) }
 {
     let mut s = r;
-    s[j] = s[j] | (1u64 << k);
+    s[j] |= 1u64 << k;
     s
 }
 
@@ -68,11 +89,8 @@ pub fn joined_row(x: u64, s: &[u64]) -> u64
     ensures { DigitsExactly result (Reached x s.now) }
 {
     let mut y: u64 = 0;
-    let mut z = x;
-    while z != 0 {
-        let k = u64::trailing_zeros(z) as usize;
-        y = y | s[k];
-        z = z & (z - 1);
+    for k in ones_of(x) {
+        y |= s[k];
     }
     y
 }
@@ -83,32 +101,25 @@ pub fn join_lent(r: &[u64], s: &[u64], count: usize) -> [u64; 64]
     ensures { HoldsExactly result (Joined r.now s.now) }
 {
     let mut t = [0u64; 64];
-    for j in 0..count {
-        t[j] = joined_row(r[j], s);
+    // `from_fn` was tried: what `joined_row` promises is not found again behind a closure that has no clauses of its own.
+    for (j, &row) in r[..count].iter().enumerate() {
+        t[j] = joined_row(row, s);
     }
     t
 }
 
-// The pairs that one or the other has.
+// The pairs that one or the other has. `both` differs in the operator alone; one function for the two would take it as a closure and say in clauses what it does.
 pub fn either(r: [u64; 64], s: [u64; 64]) -> [u64; 64]
     ensures { HoldsExactly result (Either r s) }
 {
-    let mut t = [0u64; 64];
-    for j in 0..64 {
-        t[j] = r[j] | s[j];
-    }
-    t
+    std::array::from_fn(|j| r[j] | s[j])
 }
 
 // The pairs that both have.
 pub fn both(r: [u64; 64], s: [u64; 64]) -> [u64; 64]
     ensures { HoldsExactly result (Both r s) }
 {
-    let mut t = [0u64; 64];
-    for j in 0..64 {
-        t[j] = r[j] & s[j];
-    }
-    t
+    std::array::from_fn(|j| r[j] & s[j])
 }
 
 // Each pair turned round.
@@ -116,8 +127,8 @@ pub fn transposed(r: [u64; 64]) -> [u64; 64]
     ensures { HoldsExactly result (Turned r) }
 {
     let mut t = [0u64; 64];
-    for j in 0..64 {
-        spread(&mut t, r[j], j);
+    for (j, &row) in r.iter().enumerate() {
+        spread(&mut t, row, j);
     }
     t
 }
@@ -127,11 +138,8 @@ fn spread(t: &mut [u64; 64], x: u64, j: usize)
     requires { IsRelation t.old × (j < 64) }
     ensures { Spread t.old x j t.new }
 {
-    let mut z = x;
-    while z != 0 {
-        let k = u64::trailing_zeros(z) as usize;
-        t[k] = t[k] | (1u64 << j);
-        z = z & (z - 1);
+    for k in ones_of(x) {
+        t[k] |= 1u64 << j;
     }
 }
 
@@ -139,11 +147,7 @@ fn spread(t: &mut [u64; 64], x: u64, j: usize)
 pub fn size(r: [u64; 64]) -> usize
     ensures { size_of r ≡ result }
 {
-    let mut n: usize = 0;
-    for j in 0..64 {
-        n += u64::count_ones(r[j]) as usize;
-    }
-    n
+    r.iter().map(|row| row.count_ones() as usize).sum()
 }
 
 // Whether r has no pair that begins with j.
@@ -166,11 +170,7 @@ pub fn together(words: &[u64], from: usize, to: usize) -> u64
     requires { (from ≤ to) × (to ≤ length words.now) }
     ensures { DigitsExactly result (InSome words.now from to) }
 {
-    let mut x: u64 = 0;
-    for i in from..to {
-        x = x | words[i];
-    }
-    x
+    words[from..to].iter().fold(0, |x, word| x | word)
 }
 
 // Whether r has no pair.

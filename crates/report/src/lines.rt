@@ -1,44 +1,27 @@
 // The lines of the report.
 use std::io;
-use table::Table;
+use table::{Refusal, Table};
 
-pub fn line(rt: &impl Print, words: &[u8]) -> io::Result<()> {
-    text(rt, words)?;
-    text(rt, b"\n")
+pub fn line(rt: &impl Print, words: &str) -> io::Result<()> {
+    println!(rt; "{words}")
 }
 
-pub fn count(rt: &impl Print, name: &[u8], n: usize) -> io::Result<()> {
-    text(rt, name)?;
-    next_number(rt, n)?;
-    text(rt, b"\n")
+pub fn count(rt: &impl Print, name: &str, n: usize) -> io::Result<()> {
+    println!(rt; "{name} {n}")
 }
 
-pub fn counts(rt: &impl Print, name: &[u8], table: Table) -> io::Result<()> {
-    text(rt, name)?;
-    next_number(rt, table.states)?;
-    next_number(rt, table.letters)?;
-    next_number(rt, table.marks)?;
-    next_number(rt, table.moves)?;
-    text(rt, b"\n")
+pub fn counts(rt: &impl Print, name: &str, table: Table) -> io::Result<()> {
+    println!(rt;
+        "{name} {} {} {} {}",
+        table.states, table.letters, table.marks, table.moves
+    )
 }
 
-pub fn refused(rt: &impl Print, number: u8) -> io::Result<()> {
-    count(rt, b"refused", number as usize)
+pub fn refused(rt: &impl Print, refusal: Refusal) -> io::Result<()> {
+    println!(rt; "{refusal}")
 }
 
 // Stands where the line of that name would.
-pub fn refused_for(rt: &impl Print, name: &[u8], number: u8) -> io::Result<()> {
-    text(rt, name)?;
-    text(rt, b" ")?;
-    refused(rt, number)
-}
-
-// A number after a space.
-fn next_number(rt: &impl Print, n: usize) -> io::Result<()> {
-    text(rt, b" ")?;
-    rt.print(n)
-}
-
-fn text(rt: &impl Print, bytes: &[u8]) -> io::Result<()> {
-    rt.write_all(bytes)
+pub fn refused_for(rt: &impl Print, name: &str, refusal: Refusal) -> io::Result<()> {
+    println!(rt; "{name} {refusal}")
 }

@@ -3,14 +3,12 @@
 
 mod lines;
 
-use nesting::{Found, SCRATCH};
-use shortest::Shown;
+use nesting::SCRATCH;
 use std::io;
 use std::io::Read;
-use table::{Checked, Table, refusal};
-use trim::Trimmed;
+use table::{Refusal, Table};
 
-// One byte more than the largest table has, so that an input that is too long shows.
+// One byte more than the largest table has, so that an input that is too long shows. The room for it is fixed, since nothing here takes memory of its own.
 const INPUT: usize = Table::BYTES + 1;
 
 // The most letters of a log that is shown.
@@ -22,7 +20,7 @@ fn main(rt: HostRuntime) -> io::Result<()> {
     if size < INPUT {
         report(&rt, &input[..size])
     } else {
-        lines::refused(&rt, refusal::LENGTH)
+        lines::refused(&rt, Refusal::Length)
     }
 }
 
@@ -35,68 +33,53 @@ fn read_full<R: Read>(from: &mut R, room: &mut [u8]) -> io::Result<usize> {
 // After a good check the calls refuse with 8 for the trimmed table or 10 for the log, and with nothing else; the other refusals are printed alike.
 fn report(rt: &impl Print, table: &[u8]) -> io::Result<()> {
     match table::check(table) {
-        Checked::Refused(number) => lines::refused(rt, number),
-        Checked::Good(counts) => {
-            lines::counts(rt, b"table", counts)?;
+        Ok(counts) => {
+            lines::counts(rt, "table", counts)?;
             show_nesting(rt, table)?;
             show_trimmed(rt, table)?;
             show_shortest(rt, table)
         }
+        Err(refusal) => lines::refused(rt, refusal),
     }
 }
 
 fn show_nesting(rt: &impl Print, table: &[u8]) -> io::Result<()> {
-    let answer = nesting::pairs_and_levels(table, &mut [0u16; SCRATCH]);
-    let found = answer.found;
-    match found {
-        Found::Refused(number) => {
-            lines::refused_for(rt, b"pairs", number)?;
-            lines::refused_for(rt, b"levels", number)
+    match nesting::pairs_and_levels(table, &mut [0u16; SCRATCH]) {
+        Ok(found) => {
+            lines::count(rt, "pairs", found.sizes.pairs)?;
+            lines::count(rt, "levels", found.sizes.levels)
         }
-        Found::Sizes(sizes) => {
-            lines::count(rt, b"pairs", sizes.pairs)?;
-            lines::count(rt, b"levels", sizes.levels)
+        Err(refusal) => {
+            lines::refused_for(rt, "pairs", refusal)?;
+            lines::refused_for(rt, "levels", refusal)
         }
     }
 }
 
 fn show_trimmed(rt: &impl Print, table: &[u8]) -> io::Result<()> {
     let mut out = [0u8; Table::BYTES];
-    match trim::trim(table, &mut [0u16; SCRATCH], &mut out) {
-        Trimmed::Refused(number) => lines::refused_for(rt, b"trimmed", number),
-        Trimmed::Bytes(size) => show_written(rt, front(&out, size)),
+    match trimmed_counts(table, &mut out) {
+        Ok(counts) => lines::counts(rt, "trimmed", counts),
+        Err(refusal) => lines::refused_for(rt, "trimmed", refusal),
     }
 }
 
-// The counts of what the trimmer wrote.
-fn show_written(rt: &impl Print, trimmed: &[u8]) -> io::Result<()> {
-    match table::check(trimmed) {
-        Checked::Refused(number) => lines::refused_for(rt, b"trimmed", number),
-        Checked::Good(counts) => lines::counts(rt, b"trimmed", counts),
-    }
+// The counts of what the trimmer writes.
+fn trimmed_counts(table: &[u8], out: &mut [u8; Table::BYTES]) -> Result<Table, Refusal> {
+    let size = trim::trim(table, &mut [0u16; SCRATCH], out)?;
+    table::check(front(out, size))
 }
 
 fn show_shortest(rt: &impl Print, table: &[u8]) -> io::Result<()> {
     match shortest::shortest(table, &mut [0u16; SCRATCH], &mut [0u8; LETTERS]) {
-        Shown::Refused(number) => show_no_shortest(rt, number),
-        Shown::NoLog => lines::line(rt, b"shortest none"),
-        Shown::Letters(letters) => lines::count(rt, b"shortest", letters),
-    }
-}
-
-fn show_no_shortest(rt: &impl Print, number: u8) -> io::Result<()> {
-    if number == refusal::LONG {
-        lines::count(rt, b"shortest over", LETTERS)
-    } else {
-        lines::refused_for(rt, b"shortest", number)
+        Ok(Some(letters)) => lines::count(rt, "shortest", letters),
+        Ok(None) => lines::line(rt, "shortest none"),
+        Err(Refusal::Long) => lines::count(rt, "shortest over", LETTERS),
+        Err(refusal) => lines::refused_for(rt, "shortest", refusal),
     }
 }
 
 // The first bytes of a slice, or all of a shorter one.
 fn front(bytes: &[u8], size: usize) -> &[u8] {
-    if size < bytes.len() {
-        &bytes[0..size]
-    } else {
-        bytes
-    }
+    bytes.get(..size).unwrap_or(bytes)
 }

@@ -8,6 +8,8 @@ use mathlib.Core.Path.{◌≡◌, refl, sym, ap, subst, ◌∙◌}
 use native.Mathlib.Omega.{arith}
 use lib.ListN.{length, take, drop}
 use lib.Seq.{take_at}
+use Rattle.std.specs.Prelude as rust
+use Rattle.std.specs.Prelude.{Result, Ok, Err, Some, None}
 use Rattle.vpa.specs.Automaton.{Accepts}
 use Rattle.vpa.specs.Shortest.{Shortest}
 use Rattle.vpa.specs.TableOnDisk.{Table, automaton}
@@ -16,13 +18,12 @@ use Rattle.table.specs.Answers.{Answer, refused, answered}
 use Rattle.table.specs.Bytes.{AreBytes}
 use Rattle.table.specs.Layout.{parse}
 use Rattle.table.specs.Refusals.{verdict}
-use Rattle.table.proofs.CallLaws.{once}
+use Rattle.table.specs.declared.refusal.Refusal.{Refusal}
+use Rattle.table.proofs.CallLaws.{told_once}
 use Rattle.nesting.specs.Scratch.{scratch_size, with_scratch, cleared, scratch_after}
 use Rattle.table.proofs.Lent.{Lent, is_no_table, is_short, is_lent, lent, on_no_table, on_short, on_lent, RefusedFor, lent_refused_iff}
 use Rattle.lengths.specs.Limit.{most_shown}
-use Rattle.shortest.specs.declared.Shown.{Shown}
-use Rattle.shortest.specs.declared.Shown.TheVariants as shown
-use Rattle.shortest.specs.Answers.{shown_as}
+use Rattle.shortest.specs.Answers.{log_told, shown_as}
 use Rattle.shortest.specs.Calls.{ShowsLog, shows_none, shows_long, shows_no_room, shows_log, Refuses, ShortestCall}
 
 -- What can be said of a table: no log is accepted; or some are, but each has too many letters.
@@ -253,35 +254,36 @@ module _ (s scratch out : List ℕ) where
     by (is_short z l e) = sym (answer_lent x) ∙ e ∙ sym (on_short scratch_size s scratch b refused z l) ∙ answer_lent y
     by (is_lent z l e) = (says_iff x z l b).1 (shows_says (parse s) out (shown_here y z l))
 
-  pub shortest_once : (r q : Shown) (c d o p : List ℕ) → ShortestCall s scratch out (shown_as r) c o → ShortestCall s scratch out (shown_as q) d p
-      → (r ≡ q) × (c ≡ d) × ((o ≡ p) ⊎ OtherLog (shown_as r) o p)
-  shortest_once r q c d o p a b = (once shown_as back back_as r q refl (sym (same_answer a b)), a.leaves ∙ sym b.leaves, by r a (same_answer a b)) where
-    back : Answer (Option ℕ) → Shown
-    back (refused k) = shown.Refused k
-    back (answered none) = shown.NoLog
-    back (answered (some n)) = shown.Letters n
-
-    back_as : (r : Shown) → back (shown_as r) ≡ r
-    back_as (shown.Refused k) = refl
-    back_as shown.NoLog = refl
-    back_as (shown.Letters n) = refl
-
-    by : (r : Shown) → ShortestCall s scratch out (shown_as r) c o → shown_as r ≡ shown_as q → (o ≡ p) ⊎ OtherLog (shown_as r) o p
-    by (shown.Refused k) a e = inl (shortest_refused a k refl ∙ sym (shortest_refused b k (sym e)))
-    by shown.NoLog a e = inl (shortest_no_log a refl ∙ sym (shortest_no_log b (sym e)))
-    by (shown.Letters n) a e =
-        let x = shortest_shown a n refl in
-        let y = shortest_shown b n (sym e) in
+  pub outcome_once : {a b : Answer (Option ℕ)} {c d o p : List ℕ} → ShortestCall s scratch out a c o → ShortestCall s scratch out b d p
+      → (a ≡ b) × (c ≡ d) × ((o ≡ p) ⊎ OtherLog a o p)
+  outcome_once {a} {b} {c} {d} {o} {p} x y = (same_answer x y, x.leaves ∙ sym y.leaves, by a x (same_answer x y)) where
+    by : (a : Answer (Option ℕ)) → ShortestCall s scratch out a c o → a ≡ b → (o ≡ p) ⊎ OtherLog a o p
+    by (refused k) x e = inl (shortest_refused x _ refl ∙ sym (shortest_refused y _ (sym e)))
+    by (answered none) x e = inl (shortest_no_log x refl ∙ sym (shortest_no_log y (sym e)))
+    by (answered (some n)) x e =
+        let shown = shortest_shown x n refl in
+        let other = shortest_shown y n (sym e) in
         inr (record {
           n = n;
           answers = refl;
-          none_shorter = x.none_shorter;
+          none_shorter = shown.none_shorter;
           w = take n o;
           v = take n p;
-          w_accepted = x.accepted;
-          v_accepted = y.accepted;
-          w_long = x.long;
-          v_long = y.long;
-          w_after = x.after;
-          v_after = y.after;
+          w_accepted = shown.accepted;
+          v_accepted = other.accepted;
+          w_long = shown.long;
+          v_long = other.long;
+          w_after = shown.after;
+          v_after = other.after;
         })
+
+  pub shortest_once : (r q : Result (rust.Option ℕ) Refusal) (c d o p : List ℕ) → ShortestCall s scratch out (shown_as r) c o → ShortestCall s scratch out (shown_as q) d p
+      → (r ≡ q) × (c ≡ d) × ((o ≡ p) ⊎ OtherLog (shown_as r) o p)
+  shortest_once r q c d o p a b = let w = outcome_once a b in (told_once log_told back back_as r q refl (sym w.0), w.1, w.2) where
+    back : Option ℕ → rust.Option ℕ
+    back none = None
+    back (some n) = Some n
+
+    back_as : (o : rust.Option ℕ) → back (log_told o) ≡ o
+    back_as None = refl
+    back_as (Some n) = refl

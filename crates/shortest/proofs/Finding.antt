@@ -10,8 +10,10 @@ use native.Mathlib.Numerals.{add-one}
 use native.Mathlib.Omega.{arith}
 use borrow.Author.Tests.{ltb-true, lt-ltb, eqb-true, eq-eqb}
 use lib.Dec.{T, ltb, eqb}
-use lib.ListN.{length, set}
-use Rattle.vpa.specs.TableOnDisk.{Table, kind_numbered}
+use lib.ListN.{length, get_or, set}
+use Rattle.std.proofs.Common.{Option, Some, None}
+use Rattle.vpa.specs.Automaton.{plain, opening, closing}
+use Rattle.vpa.specs.TableOnDisk.{Table}
 use Rattle.table.specs.Bytes.{byte}
 use Rattle.table.specs.Calls.{kind_answer}
 use Rattle.table.specs.Layout.{moves_part, parse}
@@ -19,34 +21,32 @@ use Rattle.table.specs.Refusals.{verdict}
 use Rattle.table.proofs.All.{both, and_true}
 use Rattle.nesting.specs.Steps.{of_kind?, move_of?}
 use Rattle.nesting.proofs.MovesFound.{taken, skipped, of_kind, other_kind}
-use Rattle.lengths.specs.Steps.{length_in}
-use Rattle.lengths.proofs.Chains.{Walked, walked_all}
-use Rattle.shortest.specs.declared.Nest.{Nest}
+use Rattle.lengths.specs.Steps.{length_in, Chained}
+use Rattle.lengths.proofs.Chains.{Walked, walked_more}
 use Rattle.shortest.specs.declared.Walk.{Walk}
-use Rattle.shortest.specs.Steps.{Via, PlainAt, OpenFor, NestAt, MoveFound, NestFound, SomePlain, SomeNest, WrotePlain, WroteOpen, with_pending}
+use Rattle.shortest.specs.Steps.{Via, PlainAt, OpenFor, NestAt, MoveFound, WrotePlain, WroteOpen, with_pending}
 
--- A search that found one, and one that came to the end of its chain.
-searches_some : {part : List ℕ} {P : ℕ → Type 0} {k : ℕ} → k < length part / 4 → P k → MoveFound part P k
-searches_some l h = record { some = λ m. h; none = λ g. absurd (omega arith) }
+-- A search along the moves that have x in the column has come to number `next`; P holds of those before.
+pub record Searching (part : List ℕ) (column x : ℕ) (P : ℕ → Type 0) (chain : List ℕ) (count next : ℕ) : Type 0 where
+  pub chained : Chained part column chain
+  pub all : count ≡ length part / 4
+  pub passed : Walked part column x next P
 
-searches_none : {part : List ℕ} (P : ℕ → Type 0) {p k : ℕ} → ((j : ℕ) → P j → (j < length part / 4) × (byte part (4 * j) ≡ p)) → length part / 4 ≤ k
-    → Walked part 0 p k (λ j. P j → ⊥) → MoveFound part P k
-searches_none P f g w = record { some = λ m. absurd (omega arith); none = λ m j h. walked_all g w j (f j h).0 (rw add-zero (f j h).1) h }
+module _ {part : List ℕ} {column x : ℕ} {P : ℕ → Type 0} {chain : List ℕ} {count next : ℕ}
+    (h : Searching part column x P chain count next) where
+  pub searching_low : {k : ℕ} → k < count → k < length part / 4
+  searching_low l = omega (arith, h.all)
 
--- Where there is one, it is found.
-module _ {t : Table} {part : List ℕ} {p : ℕ} where
-  pub plain_there : {q k : ℕ} → MoveFound part (PlainAt t part p q) k → SomePlain t part p q → PlainAt t part p q k
-  plain_there {q} {k} f h = by (dec_lt k (length part / 4)) where
-    by : Dec (k < length part / 4) → PlainAt t part p q k
-    by (yes l) = f.some l
-    by (no n) = absurd (f.none (omega arith) h.k h.at)
+  pub searching_here : {k : ℕ} → k ≡ next → Walked part column x k P
+  searching_here e = rw e h.passed
 
-  pub nest_there : {d : ℕ → ℕ → ℕ} {r v : ℕ} {nest : Nest} → NestFound part (NestAt t part d p r v) nest → SomeNest t part d p r v
-      → NestAt t part d p r v nest.opens nest.closes
-  nest_there {d} {r} {v} {nest} f h = by (dec_lt nest.opens (length part / 4)) where
-    by : Dec (nest.opens < length part / 4) → NestAt t part d p r v nest.opens nest.closes
-    by (yes l) = f.some l
-    by (no n) = absurd (f.none (omega arith) h.k h.j h.at)
+  pub searching_more : {k : ℕ} {chain' : List ℕ} {count' next' : ℕ} → chain' ≡ chain → count' ≡ count → k ≡ next → k < count → next' ≡ get_or chain (64 + k) 0
+      → P k → Searching part column x P chain' count' next'
+  searching_more {k} c n e l go p = record {
+    chained = rw c h.chained;
+    all = n ∙ h.all;
+    passed = rw go (walked_more h.chained (searching_low l) p (searching_here e));
+  }
 
 -- What is written, read from the moves' part as a function holds it.
 pub stepped : {t : Table} {part u out : List ℕ} {p q place k : ℕ} → u ≡ part → PlainAt t part p q k → WrotePlain t part p q place out (set out place (byte u (4 * k + 1)))
@@ -57,78 +57,44 @@ pub opened : {t : Table} {part u s out : List ℕ} {walk : Walk} {via moves plac
     (record { here = byte u (4 * k + 3); goal = byte u (4 * j); depth = walk.depth + 1; left = walk.left - 1 })
 opened e h = record { k = _; j = _; by = h; close = rw e; wrote = rw e; goes = rw (e, add-one) }
 
--- No open move fits close move j, or it does not close to r.
-abbrev pub NoNest : Table → List ℕ → (ℕ → ℕ → ℕ) → ℕ → ℕ → ℕ → ℕ → Type 0
-NoNest t part d p r moves j = (k : ℕ) → NestAt t part d p r moves k j → ⊥
-
 -- From here on u holds the bytes of a table's moves.
 module _ (s : List ℕ) {u : List ℕ} (good : verdict s ≡ 0) (part : u ≡ moves_part s) where
   -- PLAIN MOVES
   module _ {p q k : ℕ} where
-    pub plain_found : {P : ℕ → Type 0} {b : Bool} → k < length u / 4 → Walked u 0 p k P → of_kind? (kind_answer s (byte u (4 * k + 1))) 0 ≡ b
-        → eqb (byte u (4 * k + 3)) q && b ≡ true → MoveFound (moves_part s) (PlainAt (parse s) (moves_part s) p q) k
-    unfolding kind_numbered
+    pub plain_found : {P : ℕ → Type 0} {b : Bool} → k < length u / 4 → Walked u 0 p k P → of_kind? (kind_answer s (byte u (4 * k + 1))) plain ≡ b
+        → eqb (byte u (4 * k + 3)) q && b ≡ true → PlainAt (parse s) (moves_part s) p q k
     plain_found {b = b} l w d e =
         let t = both (eqb (byte u (4 * k + 3)) q) b e in
-        rw (← part) (searches_some l (record { low = l; from = rw add-zero at (w.at l); of = of_kind s good part k 0 l d t.1; to = eqb-true _ _ t.0 }))
+        rw (← part) (record { low = l; from = rw add-zero at (w.at l); of = of_kind s good part k plain l d t.1; to = eqb-true _ _ t.0 })
 
-    pub plain_other : {b : Bool} → k < length u / 4 → of_kind? (kind_answer s (byte u (4 * k + 1))) 0 ≡ b → eqb (byte u (4 * k + 3)) q && b ≡ false
+    pub plain_other : {b : Bool} → k < length u / 4 → of_kind? (kind_answer s (byte u (4 * k + 1))) plain ≡ b → eqb (byte u (4 * k + 3)) q && b ≡ false
         → PlainAt (parse s) u p q k → ⊥
-    unfolding kind_numbered
-    plain_other l d e h = other_kind s good part k 0 l d (rw (eq-eqb _ _ h.to) at e) h.of
-
-    pub no_plain : length u / 4 ≤ k → Walked u 0 p k (λ j. PlainAt (parse s) u p q j → ⊥) → MoveFound (moves_part s) (PlainAt (parse s) (moves_part s) p q) k
-    no_plain g w = rw (← part) (searches_none (PlainAt (parse s) u p q) (λ j h. (h.low, h.from)) g w)
+    plain_other l d e h = other_kind s good part k plain l d (rw (eq-eqb _ _ h.to) at e) h.of
 
   -- OPEN MOVES, v being the length held between one and the close move
   module _ {d : ℕ → ℕ → ℕ} (j k : ℕ) {p moves v : ℕ} (l : k < length u / 4) (held : d (byte u (4 * k + 3)) (byte u (4 * j)) ≡ v) where
-    pub open_found : {P : ℕ → Type 0} {b : Bool} → Walked u 0 p k P → move_of? s u (4 * k) 1 (byte u (4 * j + 2)) ≡ b → eqb (v + 2) moves && b ≡ true
-        → MoveFound (moves_part s) (OpenFor (parse s) (moves_part s) d p j moves) k
-    unfolding kind_numbered
+    pub open_found : {P : ℕ → Type 0} {b : Bool} → Walked u 0 p k P → move_of? s u (4 * k) opening (byte u (4 * j + 2)) ≡ b → eqb (v + 2) moves && b ≡ true
+        → OpenFor (parse s) (moves_part s) d p j moves k
     open_found {b = b} w m e =
         let t = both (eqb (v + 2) moves) b e in
-        let h = taken s good part k 1 _ l m t.1 in
-        rw (← part) (searches_some l (record { low = l; from = rw add-zero at (w.at l); of = h.1; mark = h.0; short = rw held (eqb-true _ _ t.0) }))
+        let h = taken s good part k opening _ l m t.1 in
+        rw (← part) (record { low = l; from = rw add-zero at (w.at l); of = h.1; mark = h.0; short = rw held (eqb-true _ _ t.0) })
 
-    pub open_other : {b : Bool} → move_of? s u (4 * k) 1 (byte u (4 * j + 2)) ≡ b → eqb (v + 2) moves && b ≡ false
+    pub open_other : {b : Bool} → move_of? s u (4 * k) opening (byte u (4 * j + 2)) ≡ b → eqb (v + 2) moves && b ≡ false
         → OpenFor (parse s) u d p j moves k → ⊥
-    unfolding kind_numbered
-    open_other m e h = skipped s good part k 1 _ l m (rw (eq-eqb _ _ (rw held at h.short)) at e) (h.mark, h.of)
+    open_other m e h = skipped s good part k opening _ l m (rw (eq-eqb _ _ (rw held at h.short)) at e) (h.mark, h.of)
 
-  pub no_open : {d : ℕ → ℕ → ℕ} (j : ℕ) {p moves k : ℕ} → length u / 4 ≤ k → Walked u 0 p k (λ i. OpenFor (parse s) u d p j moves i → ⊥)
-      → MoveFound (moves_part s) (OpenFor (parse s) (moves_part s) d p j moves) k
-  no_open {d} j {p} {moves} g w = rw (← part) (searches_none (OpenFor (parse s) u d p j moves) (λ i h. (h.low, h.from)) g w)
-
-  -- NESTINGS
-  module _ {d : ℕ → ℕ → ℕ} {p r moves : ℕ} (j : ℕ) where
-    pub nest_found : {P : ℕ → Type 0} {b : Bool} {k : ℕ} → j < length u / 4 → Walked u 3 r j P → of_kind? (kind_answer s (byte u (4 * j + 1))) 2 ≡ b → b ≡ true
-        → k < length u / 4 → MoveFound (moves_part s) (OpenFor (parse s) (moves_part s) d p j moves) k
-        → NestFound (moves_part s) (NestAt (parse s) (moves_part s) d p r moves) (record { opens = k; closes = j })
-    unfolding kind_numbered
-    nest_found l w kind e m f = record {
-      some = λ n. record { closer = rw (← part) (record { low = l; of = of_kind s good part j 2 l kind e; to = w.at l }); opener = f.some n };
-      none = λ g. absurd (let h = rw (← part) at g in omega arith);
-    }
-
-    -- A hint is tried: it is a close move to r, and an open move that fits it was found.
-    pub nest_hinted : {b : Bool} {k : ℕ} → j < length u / 4 → of_kind? (kind_answer s (byte u (4 * j + 1))) 2 ≡ b → eqb (byte u (4 * j + 3)) r && b ≡ true
-        → MoveFound (moves_part s) (OpenFor (parse s) (moves_part s) d p j moves) k → k < length (moves_part s) / 4 → NestAt (parse s) (moves_part s) d p r moves k j
-    unfolding kind_numbered
-    nest_hinted {b} l kind e f m =
+  -- NESTINGS: move j is a close move to r, or not, and an open move that fits it was looked for.
+  module _ (d : ℕ → ℕ → ℕ) (p r moves : ℕ) (j : ℕ) (l : j < length u / 4) {b : Bool} (kind : of_kind? (kind_answer s (byte u (4 * j + 1))) closing ≡ b) where
+    pub nest_tried : (found : Option ℕ) → eqb (byte u (4 * j + 3)) r && b ≡ true → MoveFound (OpenFor (parse s) (moves_part s) d p j moves) found
+        → MoveFound (λ k. NestAt (parse s) (moves_part s) d p r moves k j) found
+    nest_tried None e f = λ k h. f k h.opener
+    nest_tried (Some k) e f =
         let w = both (eqb (byte u (4 * j + 3)) r) b e in
-        record { closer = rw (← part) (record { low = l; of = of_kind s good part j 2 l kind w.1; to = eqb-true _ _ w.0 }); opener = f.some m }
+        record { closer = rw (← part) (record { low = l; of = of_kind s good part j closing l kind w.1; to = eqb-true _ _ w.0 }); opener = f }
 
-    pub nest_other : {b : Bool} → j < length u / 4 → of_kind? (kind_answer s (byte u (4 * j + 1))) 2 ≡ b → b ≡ false → NoNest (parse s) u d p r moves j
-    unfolding kind_numbered
-    nest_other l kind e k h = other_kind s good part j 2 l kind e h.closer.of
-
-    pub nest_unopened : {k : ℕ} → length u / 4 ≤ k → MoveFound (moves_part s) (OpenFor (parse s) (moves_part s) d p j moves) k
-        → NoNest (parse s) u d p r moves j
-    nest_unopened g f = rw part (λ i h. f.none (rw part at g) i h.opener)
-
-    pub no_nest : length u / 4 ≤ j → Walked u 3 r j (NoNest (parse s) u d p r moves)
-        → NestFound (moves_part s) (NestAt (parse s) (moves_part s) d p r moves) (record { opens = j; closes = j })
-    no_nest g w = rw (← part) (record { some = λ m. absurd (omega arith); none = λ m k i h. walked_all g w i h.closer.low h.closer.to k h })
+    pub nest_other : eqb (byte u (4 * j + 3)) r && b ≡ false → MoveFound (λ k. NestAt (parse s) (moves_part s) d p r moves k j) None
+    nest_other e = rw (← part) (λ k h. other_kind s good part j closing l kind (rw (eq-eqb _ _ h.closer.to) at e) h.closer.of)
 
 -- THE NEAREST STATE ON A WAY
 

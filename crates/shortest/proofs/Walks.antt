@@ -7,6 +7,7 @@ use native.Mathlib.Numerals.{add-one}
 use native.Mathlib.Omega.{arith}
 use lib.ListN.{length, get_or, set, take, length-set}
 use lib.Seq.{get_or-set_same, get_or-set_other, take-set-le, take-suc-set}
+use Rattle.std.proofs.Common.{Some}
 use Rattle.vpa.specs.Automaton.{plain_move, open_move, close_move, Reaches, Accepts}
 use Rattle.vpa.specs.Lists.{Trio}
 use Rattle.vpa.specs.Shortest.{LeastLengths}
@@ -284,10 +285,10 @@ pub record LogSoFar (t : Table) (n : ℕ) (s out : List ℕ) (place : ℕ) (s' o
   pub kept : KeptFrom 16384 s s'
   pub rest : KeptFrom place out out'
 
-pub log_none : {t : Table} {s out : List ℕ} {n : ℕ} {top : Top} → LeastTop t s n top → top.moves < over
+pub log_none : {t : Table} {s out : List ℕ} {n : ℕ} {top : Top} → LeastTop t s n (Some top) → top.moves < over
     → LogSoFar t top.moves s out 0 s out (record { here = top.first; goal = top.last; depth = 0; left = top.moves })
 log_none {t} {s} {out} least most =
-    let f = least.found (omega arith) in
+    let f = (least.found _ refl).0 in
     record {
       walking = record {
         marks = [];

@@ -1,6 +1,6 @@
 -- What the functions inside promise each other: the least of the top lengths, and how a log of that length is written. They stand for no further statement of
 -- document 01; the contract of the call says `Accepts` and `Shortest`.
-use Rattle.std.specs.Prelude.{ℕ, suc, ◌+◌, ◌*◌, ◌-◌, ◌/◌, ◌<◌, ◌≤◌, List, [], ◌∷◌, ◌⊎◌, ◌≡◌, T, length, get_or, set, take}
+use Rattle.std.specs.Prelude.{ℕ, suc, ◌+◌, ◌*◌, ◌-◌, ◌/◌, ◌<◌, ◌≤◌, List, [], ◌∷◌, ◌⊎◌, ◌≡◌, T, length, get_or, set, take, Option, Some, None, MatchOption}
 use Rattle.vpa.specs.Automaton.{plain, opening, closing, close_move, Reaches, Accepts}
 use Rattle.vpa.specs.Lists.{Trio}
 use Rattle.vpa.specs.TableOnDisk.{Table, state_count, kind_in, initial?, final?, InTable, automaton}
@@ -14,16 +14,31 @@ use Rattle.shortest.specs.declared.Walk.{Walk}
 
 -- TOPS: pairs from an initial to a final state.
 
+-- The length of a pair; past every length where there is no pair.
+abbrev pub held_at : Option Top → ℕ
+held_at None = suc over
+held_at (Some top) = top.moves
+
 -- The least top length of those that begin below n, if any of them has a length.
-pub record LeastTop (t : Table) (s : List ℕ) (n : ℕ) (top : Top) : Type 0 where
-  pub found : top.moves ≤ over → (T (initial? t top.first) × T (final? t top.last)) × (length_in s top.first top.last ≡ top.moves)
-  pub least : (i f : ℕ) → i < n → T (initial? t i) → T (final? t f) → length_in s i f ≤ over → top.moves ≤ length_in s i f
+pub record LeastTop (t : Table) (s : List ℕ) (n : ℕ) (top : Option Top) : Type 0 where
+  pub found : (pair : Top) → top ≡ Some pair
+      → ((T (initial? t pair.first) × T (final? t pair.last)) × (length_in s pair.first pair.last ≡ pair.moves)) × (pair.moves ≤ over)
+  pub least : (i f : ℕ) → i < n → T (initial? t i) → T (final? t f) → length_in s i f ≤ over → held_at top ≤ length_in s i f
+
+-- A pair from i, which is shorter than the bound.
+pub record TopFrom (t : Table) (s : List ℕ) (i bound : ℕ) (top : Option Top) : Type 0 where
+  pub pair : Top
+  pub is : top ≡ Some pair
+  pub first : pair.first ≡ i
+  pub last : T (final? t pair.last)
+  pub held : length_in s i pair.last ≡ pair.moves
+  pub less : pair.moves < bound
 
 -- The lesser of one top and of those from i to states below n.
-pub record LesserTop (t : Table) (s : List ℕ) (n i : ℕ) (best top : Top) : Type 0 where
-  pub is : (top ≡ best) ⊎ ((top.first ≡ i) × (T (final? t top.last) × (length_in s i top.last ≡ top.moves)))
-  pub most : top.moves ≤ best.moves
-  pub least : (f : ℕ) → f < n → T (final? t f) → length_in s i f ≤ over → top.moves ≤ length_in s i f
+pub record LesserTop (t : Table) (s : List ℕ) (n i : ℕ) (best top : Option Top) : Type 0 where
+  pub is : (top ≡ best) ⊎ TopFrom t s i (held_at best) top
+  pub most : held_at top ≤ held_at best
+  pub least : (f : ℕ) → f < n → T (final? t f) → length_in s i f ≤ over → held_at top ≤ length_in s i f
 
 -- THE LOG: written letter by letter. A level is left by reaching its goal; what is to be done after that stands on a stack of pending closes, each being the
 -- letter, the state that it leads to, and the goal of the level around.
@@ -117,14 +132,12 @@ pub record NestAt (t : Table) (part : List ℕ) (d : ℕ → ℕ → ℕ) (p r v
   pub closer : CloseAt t part r j
   pub opener : OpenFor t part d p j v k
 
--- A search among the moves: number k is one, or is past the moves and there is none.
-pub record MoveFound (part : List ℕ) (P : ℕ → Type 0) (k : ℕ) : Type 0 where
-  pub some : k < length part / 4 → P k
-  pub none : length part / 4 ≤ k → (j : ℕ) → P j → ⊥
+-- A search among the moves: it finds one, or there is none.
+abbrev pub MoveFound : (ℕ → Type 0) → Option ℕ → Type 0
+MoveFound P found = MatchOption found ((k : ℕ) → P k → ⊥) P
 
-pub record NestFound (part : List ℕ) (P : ℕ → ℕ → Type 0) (nest : Nest) : Type 0 where
-  pub some : nest.opens < length part / 4 → P nest.opens nest.closes
-  pub none : length part / 4 ≤ nest.opens → (k j : ℕ) → P k j → ⊥
+abbrev pub NestFound : (ℕ → ℕ → Type 0) → Option Nest → Type 0
+NestFound P found = MatchOption found ((k j : ℕ) → P k j → ⊥) (λ nest. P nest.opens nest.closes)
 
 -- There is such a move, and there are such moves.
 pub record SomePlain (t : Table) (part : List ℕ) (p q : ℕ) : Type 0 where

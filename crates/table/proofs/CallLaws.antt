@@ -1,5 +1,7 @@
 -- What the calls' answers come to, in the words of document 01; and that the contracts leave nothing open.
 use Prim.Native.Nat.{ℕ, zero, suc, ◌*◌, ◌/◌, ◌<◌, ◌≤◌}
+use Rattle.std.specs.Prelude as rust
+use Rattle.std.specs.Prelude.{Result, Ok, Err}
 use mathlib.Core.Bool.{Bool, true, false, cond}
 use mathlib.Core.List.{List, [], ◌∷◌, ◌++◌}
 use mathlib.Core.Logic.{◌↔◌}
@@ -12,15 +14,12 @@ use borrow.Author.Tests.{eq-eqb, ne_eqb, eqb-true, eqb-false, ltb-true, ltb-fals
 use Rattle.vpa.specs.Automaton.{Kind, plain, opening, closing}
 use Rattle.vpa.specs.TableOnDisk.{Entry, entry, state_count, letter_count, kind_numbered, kind_in}
 use Rattle.table.specs.declared.Table as declared
-use Rattle.table.specs.declared.Checked.{Checked}
-use Rattle.table.specs.declared.Checked.TheVariants as checked
-use Rattle.table.specs.declared.Written.{Written}
-use Rattle.table.specs.declared.Written.TheVariants as written
-use Rattle.table.specs.declared.Got.{Got}
-use Rattle.table.specs.declared.Got.TheVariants as got
-use Rattle.table.specs.declared.KindAt.{KindAt}
-use Rattle.table.specs.declared.KindAt.TheVariants as kind_at
-use Rattle.table.specs.Answers.{Answer, refused, answered, Counts, counts_of, checked_as, written_as, got_as, kind_as}
+use Rattle.table.specs.declared.Move.{Move}
+use Rattle.table.specs.declared.kind.Kind as declared_kind
+use Rattle.table.specs.declared.kind.Kind.TheVariants as kind
+use Rattle.table.specs.declared.refusal.Refusal.{Refusal}
+use Rattle.table.specs.declared.refusal.Refusal.TheVariants as refusal
+use Rattle.table.specs.Answers.{Answer, refused, answered, Counts, counts_of, number_of, told, counts_told, checked_as, written_as, got_as, kind_as}
 use Rattle.table.specs.Bytes.{AreBytes}
 use Rattle.table.specs.Calls.{for_table, head_counts, check_answer, moves_answer, move_answer, kind_of, kind_answer, write_answer, write_out}
 use Rattle.table.specs.Layout.{moves_field, moves_place, moves_part, move_bytes, parse, unparse}
@@ -34,53 +33,111 @@ use Rattle.table.proofs.Tables.{good_back, good_states, good_letters, good_moves
 pub once : {A B : Type 0} (f : A → B) (back : B → A) → ((r : A) → back (f r) ≡ r) → (r q : A) {b : B} → f r ≡ b → f q ≡ b → r ≡ q
 once f back h r q e d = sym (h r) ∙ ap back (e ∙ sym d) ∙ h q
 
-pub check_once : (s : List ℕ) (r q : Checked) → checked_as r ≡ check_answer s → checked_as q ≡ check_answer s → r ≡ q
-check_once s r q = once checked_as back back_as r q where
-  back : Answer Counts → Checked
-  back (refused k) = checked.Refused k
-  back (answered c) = checked.Good (record { states = c.n; letters = c.m; marks = c.g; moves = c.t })
+-- A refusal is known by its number.
+pub refusal_numbered : ℕ → Refusal
+refusal_numbered k = get_or all k refusal.State where
+  all : List Refusal
+  all =
+      refusal.State
+      ∷ refusal.Length
+      ∷ refusal.Version
+      ∷ refusal.Limit
+      ∷ refusal.Size
+      ∷ refusal.List
+      ∷ refusal.Move
+      ∷ refusal.Lent
+      ∷ refusal.Large
+      ∷ refusal.Room
+      ∷ refusal.Long
+      ∷ refusal.Letter
+      ∷ refusal.Letters
+      ∷ refusal.Depth
+      ∷ []
 
-  back_as : (r : Checked) → back (checked_as r) ≡ r
-  back_as (checked.Refused k) = refl
-  back_as (checked.Good t) = refl
+numbered_back : (r : Refusal) → refusal_numbered (number_of r) ≡ r
+unfolding refusal_numbered
+numbered_back refusal.Length = refl
+numbered_back refusal.Version = refl
+numbered_back refusal.Limit = refl
+numbered_back refusal.Size = refl
+numbered_back refusal.List = refl
+numbered_back refusal.Move = refl
+numbered_back refusal.Lent = refl
+numbered_back refusal.Large = refl
+numbered_back refusal.Room = refl
+numbered_back refusal.Long = refl
+numbered_back refusal.Letter = refl
+numbered_back refusal.Letters = refl
+numbered_back refusal.Depth = refl
+numbered_back refusal.State = refl
 
-pub write_once : (s out : List ℕ) (r q : Written) (o p : List ℕ) → written_as r ≡ write_answer s out → written_as q ≡ write_answer s out
+pub same_refusal : (r q : Refusal) → number_of r ≡ number_of q → r ≡ q
+same_refusal r q e = sym (numbered_back r) ∙ ap refusal_numbered e ∙ numbered_back q
+
+-- No refusal has the number 0, which stands for none, and none has one over 14.
+pub numbered_above : (r : Refusal) → number_of r ≡ 0 → ⊥
+numbered_above r e = by r e where
+  by : (r : Refusal) → number_of r ≡ 0 → ⊥
+  by refusal.Length e = omega arith
+  by refusal.Version e = omega arith
+  by refusal.Limit e = omega arith
+  by refusal.Size e = omega arith
+  by refusal.List e = omega arith
+  by refusal.Move e = omega arith
+  by refusal.Lent e = omega arith
+  by refusal.Large e = omega arith
+  by refusal.Room e = omega arith
+  by refusal.Long e = omega arith
+  by refusal.Letter e = omega arith
+  by refusal.Letters e = omega arith
+  by refusal.Depth e = omega arith
+  by refusal.State e = omega arith
+
+-- So two answers of a call that meet one contract are the same, if its values are known by what is made of them.
+pub told_once : {X Y : Type 0} (view : X → Y) (unview : Y → X) → ((x : X) → unview (view x) ≡ x) → (r q : Result X Refusal) {b : Answer Y}
+    → told view r ≡ b → told view q ≡ b → r ≡ q
+told_once {X} {Y} view unview h r q = once (told view) back back_as r q where
+  back : Answer Y → Result X Refusal
+  back (refused k) = Err (refusal_numbered k)
+  back (answered y) = Ok (unview y)
+
+  back_as : (r : Result X Refusal) → back (told view r) ≡ r
+  back_as (Err e) = ap Err (numbered_back e)
+  back_as (Ok x) = ap Ok (h x)
+
+pub check_once : (s : List ℕ) (r q : Result declared.Table Refusal) → checked_as r ≡ check_answer s → checked_as q ≡ check_answer s → r ≡ q
+check_once s r q = told_once counts_told (λ c. record { states = c.n; letters = c.m; marks = c.g; moves = c.t }) (λ t. refl) r q
+
+pub write_once : (s out : List ℕ) (r q : Result ℕ Refusal) (o p : List ℕ) → written_as r ≡ write_answer s out → written_as q ≡ write_answer s out
     → o ≡ write_out s out → p ≡ write_out s out → (r ≡ q) × (o ≡ p)
-write_once s out r q o p e d f g = (once written_as back back_as r q e d, f ∙ sym g) where
-  back : Answer ℕ → Written
-  back (refused k) = written.Refused k
-  back (answered n) = written.Bytes n
-
-  back_as : (r : Written) → back (written_as r) ≡ r
-  back_as (written.Refused k) = refl
-  back_as (written.Bytes n) = refl
+write_once s out r q o p e d f g = (told_once (λ n. n) (λ n. n) (λ n. refl) r q e d, f ∙ sym g)
 
 pub moves_once : (s r q : List ℕ) → r ≡ moves_answer s → q ≡ moves_answer s → r ≡ q
 moves_once s r q e d = e ∙ sym d
 
-pub move_once : (part : List ℕ) (k : ℕ) (r q : Got) → got_as r ≡ move_answer part k → got_as q ≡ move_answer part k → r ≡ q
+pub move_once : (part : List ℕ) (k : ℕ) (r q : rust.Option Move) → got_as r ≡ move_answer part k → got_as q ≡ move_answer part k → r ≡ q
 move_once part k r q = once got_as back back_as r q where
-  back : Option Entry → Got
-  back none = got.NoMove
-  back (some e) = got.Move (record { from = e.from; letter = e.letter; mark = e.mark; to = e.to })
+  back : Option Entry → rust.Option Move
+  back none = rust.None
+  back (some e) = rust.Some (record { from = e.from; letter = e.letter; mark = e.mark; to = e.to })
 
-  back_as : (r : Got) → back (got_as r) ≡ r
-  back_as got.NoMove = refl
-  back_as (got.Move e) = refl
+  back_as : (r : rust.Option Move) → back (got_as r) ≡ r
+  back_as rust.None = refl
+  back_as (rust.Some e) = refl
 
-pub kind_once : (s : List ℕ) (a : ℕ) (r q : KindAt) → kind_as r ≡ kind_answer s a → kind_as q ≡ kind_answer s a → r ≡ q
+pub kind_once : (s : List ℕ) (a : ℕ) (r q : rust.Option declared_kind.Kind) → kind_as r ≡ kind_answer s a → kind_as q ≡ kind_answer s a → r ≡ q
 kind_once s a r q = once kind_as back back_as r q where
-  back : Option Kind → KindAt
-  back none = kind_at.NoLetter
-  back (some plain) = kind_at.Plain
-  back (some opening) = kind_at.Open
-  back (some closing) = kind_at.Close
+  back : Option Kind → rust.Option declared_kind.Kind
+  back none = rust.None
+  back (some plain) = rust.Some kind.Plain
+  back (some opening) = rust.Some kind.Open
+  back (some closing) = rust.Some kind.Close
 
-  back_as : (r : KindAt) → back (kind_as r) ≡ r
-  back_as kind_at.NoLetter = refl
-  back_as kind_at.Plain = refl
-  back_as kind_at.Open = refl
-  back_as kind_at.Close = refl
+  back_as : (r : rust.Option declared_kind.Kind) → back (kind_as r) ≡ r
+  back_as rust.None = refl
+  back_as (rust.Some kind.Plain) = refl
+  back_as (rust.Some kind.Open) = refl
+  back_as (rust.Some kind.Close) = refl
 
 -- The number that the ladder computes is the one that document 01 gives.
 pub given_verdict : (s : List ℕ) → AreBytes s → (k : ℕ) → Given s order k ↔ (verdict s ≡ k)
@@ -116,7 +173,7 @@ pub record Counted (s : List ℕ) (t : declared.Table) : Type 0 where
   pub marks : t.marks ≡ (parse s).mark_count
   pub moves : t.moves ≡ length (parse s).moves
 
-pub when_good : (s : List ℕ) (t : declared.Table) → checked_as (checked.Good t) ≡ check_answer s → Counted s t
+pub when_good : (s : List ℕ) (t : declared.Table) → checked_as (Ok t) ≡ check_answer s → Counted s t
 when_good s t e = by (begins s _ refused) where
   counts : Answer Counts → Counts
   counts (refused k) = record { n = 0; m = 0; g = 0; t = 0 }
@@ -124,11 +181,11 @@ when_good s t e = by (begins s _ refused) where
 
   by : Begins s (answered (head_counts s)) refused → Counted s t
   by (goes_on z d) =
-      let c : counts (checked_as (checked.Good t)) ≡ counts_of (parse s) = ap counts (e ∙ check_good s z) in
+      let c : counts (checked_as (Ok t)) ≡ counts_of (parse s) = ap counts (e ∙ check_good s z) in
       record { good = z; states = ap (λ x. x.n) c; letters = ap (λ x. x.m) c; marks = ap (λ x. x.g) c; moves = ap (λ x. x.t) c }
   by (refuses n d) = absurd (let o : ◌≡◌ {A = ℕ} 0 1 = cc in omega arith)
 
-pub when_refused : (s : List ℕ) (k : ℕ) → checked_as (checked.Refused k) ≡ check_answer s → (verdict s ≡ k) × (k ≡ 0 → ⊥)
+pub when_refused : (s : List ℕ) (k : ℕ) → refused k ≡ check_answer s → (verdict s ≡ k) × (k ≡ 0 → ⊥)
 when_refused s k e = by (begins s _ refused) where
   by : Begins s (answered (head_counts s)) refused → (verdict s ≡ k) × (k ≡ 0 → ⊥)
   by (goes_on z d) = absurd (let o : ◌≡◌ {A = ℕ} 0 1 = cc in omega arith)

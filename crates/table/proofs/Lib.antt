@@ -9,6 +9,7 @@ pub mod Lent
 pub mod Logs
 pub mod Order
 pub mod Parsing
+pub mod Quads
 pub mod Parts
 pub mod Passes
 pub mod Reasons

@@ -101,6 +101,11 @@ in_range? s k =
     && ltb (move_mark s k) (mark_bound s (move_letter s k))
     && ltb (move_to s k) (states_field s)
 
+-- The same of a move's four bytes, of the number of states and the numbers that marks are below.
+abbrev pub Fits : ℕ → List ℕ → List ℕ → Type 0
+Fits states bounds move =
+    (byte move 0 < states) × (byte move 2 < byte bounds (byte move 1)) × (byte move 3 < states)
+
 -- Move k stands before the next, by the numbers in their four bytes.
 unfoldable pub rises? : List ℕ → ℕ → Bool
 rises? s k = ltb (quad s (place_of_move s k)) (quad s (place_of_move s k + 4))

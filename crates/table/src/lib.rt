@@ -4,16 +4,23 @@
 // above; of them only `checked_moves` asks for bytes that were checked.
 #![tactic(auto)]
 
-ghost use Rattle.std.specs.Prelude.{ℕ, ◌+◌, ◌*◌, ◌-◌, ◌<◌, ◌≤◌, eqb, length, drop, get_or, cond, ◌++◌, ◌≡◌};
-ghost use Rattle.std.proofs.Math.Option.{some};
-ghost use Rattle.vpa.specs.TableOnDisk.{kind_numbered, initial?, final?};
-ghost use Rattle.table.specs.Answers.{checked_as, written_as, got_as, kind_as};
+ghost use Rattle.std.specs.Prelude.{ℕ, ◌+◌, ◌*◌, ◌-◌, ◌<◌, ◌≤◌, eqb, length, drop, get_or, cond, ◌++◌, ◌≡◌, ◌↔◌, IsTrue, All};
+ghost use Rattle.std.specs.List.{AllAdjacentBelow};
+ghost use Rattle.std.specs.Simd.{first_chunks};
+ghost use Rattle.vpa.specs.TableOnDisk.{initial?, final?};
+ghost use Rattle.table.specs.Answers.{checked_as, written_as, got_as, kind_as, number_of, number_told};
 ghost use Rattle.table.specs.Bytes.{byte, word, quad, all?};
 ghost use Rattle.table.specs.Calls.{check_answer, moves_answer, move_answer, kind_answer, write_answer, write_out};
 ghost use Rattle.table.specs.Layout.{moves_field, states_place, moves_place, states_part, moves_part, parse};
-ghost use Rattle.table.specs.Refusals.{whole?, small?, sized?, capped?, lists?, mark_bound, in_range?, rises?, moves?, rung, head_rungs, verdict};
+ghost use Rattle.table.specs.Refusals.{whole?, small?, sized?, capped?, lists?, mark_bound, in_range?, Fits, rises?, moves?, rung, head_rungs, verdict};
 
-pub mod refusal;
+mod checked;
+mod kind;
+mod refusal;
+
+pub use checked::Checked;
+pub use kind::Kind;
+pub use refusal::Refusal;
 
 // The counts of a table.
 #[derive(Clone, Copy)]
@@ -59,12 +66,6 @@ pub const KINDS_PLACE: usize = 8;
 pub const VERSION: u8 = 1;
 
 #[derive(Clone, Copy)]
-pub enum Checked {
-    Refused(u8),
-    Good(Table),
-}
-
-#[derive(Clone, Copy)]
 pub struct Move {
     pub from: u8,
     pub letter: u8,
@@ -72,100 +73,66 @@ pub struct Move {
     pub to: u8,
 }
 
-#[derive(Clone, Copy)]
-pub enum Got {
-    Move(Move),
-    NoMove,
-}
-
-#[derive(Clone, Copy)]
-pub enum KindAt {
-    Plain,
-    Open,
-    Close,
-    NoLetter,
-}
-
-#[derive(Clone, Copy)]
-pub enum Written {
-    Refused(u8),
-    Bytes(usize),
-}
-
-// The table's counts, or the number of the refusal.
-pub fn check(table: &[u8]) -> Checked
+// The table's counts, or the refusal.
+pub fn check(table: &[u8]) -> Result<Table, Refusal>
     ensures { checked_as result ≡ check_answer table.now }
 {
-    let number = verdict(table);
-    if number == 0 {
-        Checked::Good(Table {
-            states: number_at(table, STATES_FIELD),
-            letters: number_at(table, LETTERS_FIELD),
-            marks: number_at(table, MARKS_FIELD),
-            moves: word_at(table, MOVES_FIELD),
-        })
-    } else {
-        Checked::Refused(number)
-    }
+    verdict(table)?;
+    Ok(Table {
+        states: number_at(table, STATES_FIELD),
+        letters: number_at(table, LETTERS_FIELD),
+        marks: number_at(table, MARKS_FIELD),
+        moves: word_at(table, MOVES_FIELD),
+    })
 }
 
 // The bytes of the table's moves, four for each; none where `check` refuses.
 pub fn moves(table: &[u8]) -> &[u8]
     ensures { result.now ≡ moves_answer table.now }
 {
-    if verdict(table) == 0 {
-        checked_moves(table)
-    } else {
-        &table[..0]
+    match verdict(table) {
+        Ok(()) => checked_moves(table),
+        Err(_) => &table[..0],
     }
 }
 
 // Move k, counted from 0, of the bytes of moves.
-pub fn move_at(part: &[u8], k: usize) -> Got
+pub fn move_at(part: &[u8], k: usize) -> Option<Move>
     ensures { got_as result ≡ move_answer part.now k }
 {
-    if k < part.len() / 4 {
-        let i = 4 * k;
-        Got::Move(Move {
-            from: part[i],
-            letter: part[i + 1],
-            mark: part[i + 2],
-            to: part[i + 3],
-        })
-    } else {
-        Got::NoMove
-    }
+    let &[from, letter, mark, to] = part.as_chunks::<4>().0.get(k)?;
+    Some(Move {
+        from,
+        letter,
+        mark,
+        to,
+    })
 }
 
 // Writes the table to the front of out, and answers how many bytes it has. Refused, out is not touched.
-pub fn write(table: &[u8], out: &mut [u8]) -> Written
+pub fn write(table: &[u8], out: &mut [u8]) -> Result<usize, Refusal>
     ensures result_value { written_as result ≡ write_answer table.now out.old }
     ensures out_after { out.new ≡ write_out table.now out.old }
 {
-    let number = verdict(table);
-    if number != 0 {
-        return Written::Refused(number);
+    verdict(table)?;
+    let has_room = table.len() <= out.len();
+    if !has_room {
+        return Err(Refusal::Room);
     }
-    if out.len() < table.len() {
-        return Written::Refused(refusal::ROOM);
-    }
-    copy(table, out);
-    Written::Bytes(table.len())
+    out[..table.len()].copy_from_slice(table);
+    Ok(table.len())
 }
 
-// The number of the refusal, and 0 where there is none. What follows the head is looked at only once it is known to be there.
-pub fn verdict(table: &[u8]) -> u8
-    ensures { verdict table.now ≡ result }
+// Whether the bytes are a table; if not, why. What follows the head is looked at only once it is known to be there.
+pub fn verdict(table: &[u8]) -> Result<(), Refusal>
+    ensures { verdict table.now ≡ number_told result }
 {
-    let head = head_verdict(table);
-    if head != 0 {
-        return head;
-    }
-    let from_moves = rung(are_moves(table), refusal::MOVE, 0);
-    rung(are_lists(table), refusal::LIST, from_moves)
+    head_verdict(table)?;
+    rung(are_lists(table), Refusal::List)?;
+    rung(are_moves(table), Refusal::Move)
 }
 
-// The bytes of the moves of a table that was checked.
+// The bytes of the moves of a table that was checked. It asks by a clause, and not by a `Checked`, since docs/DECISIONS.md names it as the way for bytes.
 pub fn checked_moves(table: &[u8]) -> &[u8]
     requires { verdict table.now ≡ 0 }
     ensures { result.now ≡ moves_part table.now }
@@ -176,15 +143,14 @@ pub fn checked_moves(table: &[u8]) -> &[u8]
 }
 
 // The kind of a letter. Where the bytes were not checked, it is read from where it would stand; so are the next two.
-pub fn kind_at(table: &[u8], letter: usize) -> KindAt
+pub fn kind_at(table: &[u8], letter: usize) -> Option<Kind>
     ensures { kind_as result ≡ kind_answer table.now letter }
 {
-    if letter < number_at(table, LETTERS_FIELD) {
-        if KINDS_PLACE + letter < table.len() {
-            return kind_numbered(table[KINDS_PLACE + letter]);
-        }
+    if letter >= number_at(table, LETTERS_FIELD) {
+        return None;
     }
-    KindAt::NoLetter
+    let &number = table.get(KINDS_PLACE + letter)?;
+    Some(Kind::from(number))
 }
 
 // Whether a state is initial. A state past the table's is not.
@@ -212,34 +178,24 @@ fn state_byte(table: &[u8], state: usize) -> u8
     }
 }
 
-fn kind_numbered(number: u8) -> KindAt
-    ensures { kind_as result ≡ some (kind_numbered number) }
-{
-    match number {
-        0 => KindAt::Plain,
-        1 => KindAt::Open,
-        _ => KindAt::Close,
-    }
-}
-
 // What stands at place i; past the end that is 0.
 fn at(table: &[u8], i: usize) -> u8
     ensures { byte table.now i ≡ result }
 {
-    if i < table.len() { table[i] } else { 0 }
+    table.get(i).copied().unwrap_or(0)
 }
 
 fn number_at(table: &[u8], i: usize) -> usize
     ensures { (byte table.now i ≡ result) × (result < 256) }
 {
-    at(table, i) as usize
+    usize::from(at(table, i))
 }
 
 fn word_at(table: &[u8], i: usize) -> usize
     requires { i < 65536 }
     ensures { (word table.now i ≡ result) × (result < 65536) }
 {
-    number_at(table, i) * 256 + number_at(table, i + 1)
+    usize::from(u16::from_be_bytes([at(table, i), at(table, i + 1)]))
 }
 
 // Where the moves begin.
@@ -249,25 +205,21 @@ fn moves_place(table: &[u8]) -> usize
     KINDS_PLACE + number_at(table, LETTERS_FIELD) + number_at(table, STATES_FIELD)
 }
 
-// The number of a refusal for the head or for the number of bytes, and 0 where there is none.
-fn head_verdict(table: &[u8]) -> u8
-    ensures { head_rungs table.now 0 ≡ result }
+// Whether the head and the number of bytes are those of a table.
+fn head_verdict(table: &[u8]) -> Result<(), Refusal>
+    ensures { head_rungs table.now 0 ≡ number_told result }
 {
-    let from_size = rung(is_sized(table), refusal::SIZE, 0);
-    let from_limit = rung(is_small(table), refusal::LIMIT, from_size);
-    let from_version = rung(
-        at(table, VERSION_FIELD) == VERSION,
-        refusal::VERSION,
-        from_limit,
-    );
-    rung(is_whole(table), refusal::LENGTH, from_version)
+    rung(is_whole(table), Refusal::Length)?;
+    rung(at(table, VERSION_FIELD) == VERSION, Refusal::Version)?;
+    rung(is_small(table), Refusal::Limit)?;
+    rung(is_sized(table), Refusal::Size)
 }
 
 // A rung of the ladder of refusals.
-fn rung(ok: bool, number: u8, rest: u8) -> u8
-    ensures { rung ok number rest ≡ result }
+fn rung(ok: bool, refusal: Refusal) -> Result<(), Refusal>
+    ensures { number_told result ≡ rung ok (number_of refusal) 0 }
 {
-    if ok { rest } else { number }
+    if ok { Ok(()) } else { Err(refusal) }
 }
 
 fn is_whole(table: &[u8]) -> bool
@@ -298,34 +250,31 @@ fn are_lists(table: &[u8]) -> bool
     requires { moves_place table.now ≤ length table.now }
     ensures { lists? table.now ≡ result }
 {
-    let letters = number_at(table, LETTERS_FIELD);
-    let states = number_at(table, STATES_FIELD);
-    are_at_most(table, KINDS_PLACE, letters, 2)
-        & are_at_most(table, KINDS_PLACE + letters, states, 3)
+    let place = KINDS_PLACE + number_at(table, LETTERS_FIELD);
+    are_at_most(&table[KINDS_PLACE..place], 2) && are_at_most(&table[place..moves_place(table)], 3)
 }
 
-// Whether count bytes from place on are at most most.
-fn are_at_most(table: &[u8], place: usize, count: usize, most: u8) -> bool
-    requires { place + count ≤ length table.now }
-    ensures { all? (capped? table.now place most) count ≡ result }
+fn are_at_most(bytes: &[u8], most: u8) -> bool
+    ensures { IsTrue result ↔ All (λ byte. byte ≤ most) bytes.now }
 {
-    let mut ok = true;
-    for k in 0..count {
-        ok = ok & (table[place + k] <= most);
-    }
-    ok
+    bytes.iter().all(|&byte| byte <= most)
 }
 
-// Two passes, one test each, so that neither loop has a branch.
+// The bytes of the moves, four for each.
+fn move_quads(table: &[u8]) -> &[[u8; 4]]
+    requires { moves_place table.now + 4 * moves_field table.now ≤ length table.now }
+    ensures { result.now ≡ first_chunks 4 (moves_field table.now) (moves_part table.now) }
+{
+    let place = moves_place(table);
+    let end = place + 4 * word_at(table, MOVES_FIELD);
+    table[place..end].as_chunks::<4>().0
+}
+
 fn are_moves(table: &[u8]) -> bool
     requires { moves_place table.now + 4 * moves_field table.now ≤ length table.now }
     ensures { moves? table.now ≡ result }
 {
-    if are_in_range(table) {
-        all_rise(table)
-    } else {
-        false
-    }
+    are_in_range(table) && all_rise(table)
 }
 
 // Whether all moves name states, letters and marks of the table.
@@ -333,19 +282,19 @@ fn are_in_range(table: &[u8]) -> bool
     requires { moves_place table.now + 4 * moves_field table.now ≤ length table.now }
     ensures { all? (in_range? table.now) (moves_field table.now) ≡ result }
 {
-    let bounds = mark_bounds(table);
-    let states = at(table, STATES_FIELD);
-    let place = moves_place(table);
-    let count = word_at(table, MOVES_FIELD);
-    let mut ok = true;
-    for k in 0..count {
-        let i = place + 4 * k;
-        let fits = (table[i] < states)
-            & (table[i + 2] < bounds[wide(table[i + 1])])
-            & (table[i + 3] < states);
-        ok = ok & fits;
-    }
-    ok
+    all_fit(
+        move_quads(table),
+        at(table, STATES_FIELD),
+        &mark_bounds(table),
+    )
+}
+
+fn all_fit(quads: &[[u8; 4]], states: u8, bounds: &[u8; 256]) -> bool
+    ensures { IsTrue result ↔ All (Fits states bounds.now) quads.now }
+{
+    quads.iter().all(|&[from, letter, mark, to]| {
+        from < states && mark < bounds[usize::from(letter)] && to < states
+    })
 }
 
 // For each byte that a move may have as its letter, the number that its mark is below.
@@ -354,10 +303,10 @@ fn mark_bounds(table: &[u8]) -> [u8; 256]
     ensures { (a : ℕ) → mark_bound table.now a ≡ get_or result a 0 }
 {
     let marks = at(table, MARKS_FIELD);
-    let letters = number_at(table, LETTERS_FIELD);
+    let kinds = &table[KINDS_PLACE..KINDS_PLACE + number_at(table, LETTERS_FIELD)];
     let mut bounds = [0u8; 256];
-    for a in 0..letters {
-        bounds[a] = mark_bound(table[KINDS_PLACE + a], marks);
+    for (letter, &kind) in kinds.iter().enumerate() {
+        bounds[letter] = mark_bound(kind, marks);
     }
     bounds
 }
@@ -373,45 +322,20 @@ fn all_rise(table: &[u8]) -> bool
     requires { moves_place table.now + 4 * moves_field table.now ≤ length table.now }
     ensures { all? (rises? table.now) (moves_field table.now - 1) ≡ result }
 {
-    let place = moves_place(table);
-    let count = word_at(table, MOVES_FIELD);
-    let mut ok = true;
-    let mut k = 0;
-    while k + 1 < count {
-        let i = place + 4 * k;
-        ok = ok & (quad_at(table, i) < quad_at(table, i + 4));
-        k += 1;
-    }
-    ok
+    are_ascending(move_quads(table))
 }
 
-// The number in the four bytes at i.
-fn quad_at(table: &[u8], i: usize) -> u32
-    requires { i + 4 ≤ length table.now }
-    ensures { quad table.now i ≡ result }
+fn are_ascending(quads: &[[u8; 4]]) -> bool
+    ensures { IsTrue result ↔ AllAdjacentBelow (λ here next. quad here 0 < quad next 0) quads.now (length quads.now) }
 {
-    (wide32(table[i]) * 256 + wide32(table[i + 1])) * 65536
-        + (wide32(table[i + 2]) * 256 + wide32(table[i + 3]))
+    quads
+        .array_windows::<2>()
+        .all(|&[here, next]| number_in(here) < number_in(next))
 }
 
-fn wide32(byte: u8) -> u32
-    ensures { (byte ≡ result) × (result < 256) }
+// The number in four bytes.
+fn number_in(bytes: [u8; 4]) -> u32
+    ensures { quad bytes 0 ≡ result }
 {
-    byte as u32
-}
-
-fn wide(byte: u8) -> usize
-    ensures { (byte ≡ result) × (result < 256) }
-{
-    byte as usize
-}
-
-// Copies a slice to the front of another.
-fn copy(from: &[u8], to: &mut [u8])
-    requires { length from.now ≤ length to.old }
-    ensures { to.new ≡ from.now ++ drop (length from.now) to.old }
-{
-    for i in 0..from.len() {
-        to[i] = from[i];
-    }
+    u32::from_be_bytes(bytes)
 }

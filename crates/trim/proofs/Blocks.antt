@@ -1,15 +1,23 @@
 -- The bytes of the moves that a state has by a letter: where they stand in the moves' part, and where those with one mark lead.
-use Prim.Native.Nat.{ℕ, ◌+◌, ◌*◌, ◌-◌, ◌/◌, ◌<◌, ◌≤◌}
-use mathlib.Core.Bool.{Bool, ◌&&◌}
-use mathlib.Core.List.{List, Memᴰ}
+use Prim.Native.Nat.{ℕ, zero, suc, ◌+◌, ◌*◌, ◌-◌, ◌/◌, ◌<◌, ◌≤◌}
+use mathlib.Core.Bool.{Bool, true, false, ◌&&◌}
+use mathlib.Core.List.{List, [], Memᴰ}
 use mathlib.Core.Logic.{◌↔◌, ◌⊎◌, inl, inr, ⊎_elim}
 use mathlib.Core.Path.{◌≡◌, refl, sym, ap, subst, ◌∙◌}
 use native.Mathlib.Decide.{dec_lt}
 use native.Mathlib.Nat.{eq-or-lt_of_le}
 use native.Mathlib.Omega.{arith}
 use lib.Bits.{bit_and, bit_or}
-use lib.Dec.{T, eqb, eqb_refl, eqb→eq}
-use lib.ListN.{length, get_or, take, drop}
+use borrow.Author.Tests.{ltb-true, ltb-false}
+use lib.Dec.{T, ltb, eqb, eqb_refl, eqb→eq}
+use lib.ListN.{length, get_or, take, drop, length-take, length-drop}
+use lib.Seq.{get_or-take, get_or-drop}
+use Rattle.std.specs.Prelude.{Option, Some, None}
+use Rattle.std.specs.List.{AllWithin, HoldsAt}
+use Rattle.std.specs.Option.{MatchOption, unwrap_or}
+use Rattle.std.specs.List.Sorted.{IsPartitionedBy, IsPartitionPoint}
+use Rattle.std.specs.Simd.{first_chunks}
+use Rattle.std.proofs.lemmas.List.Sorted.{IsPartitionedBy-ltb, IsNonDecreasingBy-from_default}
 use Rattle.vpa.specs.Lists.{any?, Sorted}
 use Rattle.vpa.specs.TableOnDisk.{Entry, entry, EntryBefore, letter_count}
 use Rattle.vpa.proofs.Lists.{and, both, any_intro, any_elim}
@@ -18,6 +26,7 @@ use Rattle.table.specs.Layout.{entries, moves_part, parse}
 use Rattle.table.specs.Refusals.{verdict}
 use Rattle.table.proofs.Entries.{sorted_apart, count_entries, move_in, part_move, entries_get, entry_here, entry_place}
 use Rattle.table.proofs.Parts.{length_part}
+use Rattle.table.proofs.Quads.{quad_byte}
 use Rattle.table.proofs.Tables.{good_storable, good_table}
 use Rattle.relation.specs.Digits.{bit}
 use Rattle.relation.specs.Relations.{Holds, holds?}
@@ -28,10 +37,12 @@ use Rattle.trim.specs.Steps.{Rising, CutBefore, CutFrom, Cut, BlockOf, EndsLow, 
 use Rattle.triples.proofs.DigitLists.{digit_test, digits_both}
 use Rattle.triples.proofs.Laying.{appended_same}
 
--- THE CUTS
+-- A byte of a move, in the fours that the library cuts a slice into.
+pub quad_at : (xs : List ℕ) {ms : List (List ℕ)} → ms ≡ first_chunks 4 (length xs / 4) xs → length ms ≡ length xs / 4 → (k j : ℕ) (d : List ℕ) → k < length ms → j < 4
+    → get_or (get_or ms k d) j 0 ≡ byte xs (4 * k + j)
+quad_at xs e f k j d l m = rw e (quad_byte xs k j d (omega arith) m)
 
-pub before_none : (part : List ℕ) (key : ℕ) → CutBefore part key 0
-before_none part key = record { inside = omega arith; at = λ j l. absurd (omega arith) }
+-- THE CUTS
 
 pub before_next : {part : List ℕ} {key at : ℕ} → Cut part key at → CutBefore part (key + 1) at
 before_next c = record { inside = c.before.inside; at = λ j l. omega (arith, c.before.at j l) }
@@ -42,12 +53,77 @@ from_none key l = record { at = λ j m g. absurd (omega arith) }
 pub cut_of : {part : List ℕ} {key low high : ℕ} → CutBefore part key low → CutFrom part key high → high ≤ low → Cut part key low
 cut_of b f l = record { before = b; after = record { at = λ j m g. f.at j (omega arith) g } }
 
+pub cut_same : {part : List ℕ} {key other at : ℕ} → key ≡ other → Cut part key at → Cut part other at
+cut_same {part} {at = at} e c = subst (λ k. Cut part k at) e c
+
 -- One move that was looked at says it of all before it, or of all after it.
 pub before_to : {part : List ℕ} {key m : ℕ} → Rising part → m < length part / 4 → word part (4 * m) < key → CutBefore part key (m + 1)
 before_to {m = m} r l h = record { inside = omega arith; at = λ j g. omega (arith, r.at j m (omega arith) l) }
 
 pub from_here : {part : List ℕ} {key : ℕ} (m : ℕ) → Rising part → key ≤ word part (4 * m) → CutFrom part key m
 from_here m r h = record { at = λ j l g. omega (arith, r.at m j l g) }
+
+-- The same of the fours that the library cuts the part into: their keys rise, so those before a key are in front, and the library finds how many.
+module _ (part : List ℕ) {ms : List (List ℕ)} (same : ms ≡ first_chunks 4 (length part / 4) part) (count : length ms ≡ length part / 4) where
+  key_here : (k : ℕ) (d : List ℕ) → k < length ms → word (get_or ms k d) 0 ≡ word part (4 * k)
+  key_here k d l =
+      let from = quad_at part same count k 0 d l (omega arith) in
+      let letter = quad_at part same count k 1 d l (omega arith) in
+      let e : 4 * k + 0 ≡ 4 * k = omega arith in
+      let f : byte part (4 * k + 0) ≡ byte part (4 * k) = ap (byte part) e in
+      omega arith
+
+  pub keys_rise : Rising part → (key : ℕ) → IsPartitionedBy (λ m. ltb (word m 0) key) ms
+  keys_rise r key =
+      IsPartitionedBy-ltb (λ m. word m 0) ms key
+      (IsNonDecreasingBy-from_default (λ m. word m 0) ms [] (λ j k l m. omega (arith, key_here j [] (omega arith), key_here k [] m, r.at j k l (omega arith))))
+
+  pub cut_found : {key n : ℕ} → n ≤ length ms → IsPartitionPoint (λ m. ltb (word m 0) key ≡ true) (λ m. ltb (word m 0) key ≡ false) ms n → Cut part key n
+  cut_found {key} {n} l p = record {
+    before = record {
+      inside = omega arith;
+      at = λ j m. let t = ltb-true (word (get_or ms j []) 0) key (p.0 j [] (omega arith) m) in omega (arith, key_here j [] (omega arith));
+    };
+    after = record {
+      at = λ j m g. let t = ltb-false (word (get_or ms j []) 0) key (p.1 j [] m (omega arith)) in omega (arith, key_here j [] (omega arith));
+    };
+  }
+
+  -- Of the moves from a cut on, the first with another key stands where the next key begins.
+  module _ {key at : ℕ} (rising : Rising part) (cut : Cut part key at) where
+    abbrev rest : List (List ℕ)
+    rest = take (length ms - at) (drop at ms)
+
+    rest_count : length rest ≡ length ms - at
+    rest_count = omega (arith, length-take (length ms - at) (drop at ms), length-drop at ms)
+
+    rest_key : (k : ℕ) → k < length rest → word (get_or rest k []) 0 ≡ word part (4 * (at + k))
+    rest_key k l =
+        ap (λ m. word m 0) (get_or-take (length ms - at) (drop at ms) k [] (omega (arith, rest_count)) ∙ get_or-drop at ms k [])
+        ∙ key_here (at + k) [] (omega (arith, rest_count))
+
+    until : (n : ℕ) → n ≤ length rest → AllWithin (λ m. word m 0 ≡ key) rest 0 n → CutBefore part (key + 1) (at + n)
+    until zero l a = subst (CutBefore part (key + 1)) (omega arith) (before_next cut)
+    until (suc n) l a =
+        let e = a n [] (omega arith) (omega arith) in
+        let inside : at + n < length part / 4 = omega (arith, rest_count) in
+        subst (CutBefore part (key + 1)) (omega arith) (before_to rising inside (omega (arith, rest_key n (omega arith))))
+
+    found : (r : Option ℕ) → MatchOption r (AllWithin (λ m. word m 0 ≡ key) rest 0 (length rest)) (λ i. (i < length rest) × HoldsAt (λ m. word m 0 ≡ key → ⊥) rest i × AllWithin (λ m. word m 0 ≡ key) rest 0 i)
+        → Cut part (key + 1) (at + unwrap_or r (length rest))
+    found None a = cut_of {high = at + length rest} (until (length rest) (omega arith) a) (from_none _ (omega (arith, rest_count, cut.before.inside))) (omega arith)
+    found (Some i) w =
+        let here = rest_key i w.0 in
+        let inside : at + i < length part / 4 = omega (arith, rest_count) in
+        let from = cut.after.at (at + i) (omega arith) inside in
+        cut_of {high = at + i} (until i (omega (arith, w.0)) w.2) (from_here (at + i) rising (next (λ e. w.1 [] (here ∙ e)) from)) (omega arith)
+      where
+        next : {x : ℕ} → (x ≡ key → ⊥) → key ≤ x → key + 1 ≤ x
+        next {x} f l = ⊎_elim (λ e. absurd (f (sym e))) (λ g. omega arith) (eq-or-lt_of_le l)
+
+    pub end_found : (r : Option ℕ) {n : ℕ} → MatchOption r (AllWithin (λ m. word m 0 ≡ key) rest 0 (length rest)) (λ i. (i < length rest) × HoldsAt (λ m. word m 0 ≡ key → ⊥) rest i × AllWithin (λ m. word m 0 ≡ key) rest 0 i)
+        → n ≡ unwrap_or r (length rest) → (at ≤ at + n) × Cut part (key + 1) (at + n)
+    end_found r w e = (omega arith, rw e (found r w))
 
 -- On which side of a cut a move stands.
 cut_past : {part : List ℕ} {key at k : ℕ} → Cut part key at → key ≤ word part (4 * k) → at ≤ k

@@ -8,6 +8,7 @@ use mathlib.Core.Path.{◌≡◌, refl, sym, ap, subst, ◌∙◌}
 use native.Mathlib.Decide.{dec_lt}
 use native.Mathlib.Omega.{arith}
 use borrow.Author.Tests.{leb-true, lt-ltb, le-ltb, le-leb}
+use Rattle.std.specs.Prelude.{Result}
 use lib.Dec.{T}
 use lib.ListN.{length, take, drop}
 use lib.Seq.{take_at}
@@ -21,13 +22,12 @@ use Rattle.table.specs.Bytes.{AreBytes}
 use Rattle.table.specs.Layout.{parse, unparse, most_states, most_marks, most_moves, Storable}
 use Rattle.table.specs.Refusals.{verdict}
 use Rattle.table.proofs.All.{both, and_true}
-use Rattle.table.proofs.CallLaws.{once}
+use Rattle.table.proofs.CallLaws.{told_once}
 use Rattle.table.proofs.Parsing.{parse_unparse, unparse_bytes}
 use Rattle.table.proofs.Tables.{good_storable, good_table, storable_good}
 use Rattle.nesting.specs.Scratch.{scratch_size, with_scratch, cleared}
 use Rattle.table.proofs.Lent.{Lent, is_no_table, is_short, is_lent, lent, on_no_table, on_short, on_lent, RefusedFor, lent_refused_iff}
-use Rattle.trim.specs.declared.Trimmed.{Trimmed}
-use Rattle.trim.specs.declared.Trimmed.TheVariants as trimmed
+use Rattle.table.specs.declared.refusal.Refusal.{Refusal}
 use Rattle.trim.specs.Answers.{trimmed_as}
 use Rattle.trim.specs.Calls.{within?, written_answer, written_out, trim_call}
 
@@ -292,12 +292,6 @@ module _ (s scratch out : List ℕ) where
         let reasons = written_refused_iff (trim_table (parse s)) out 9 in
         (λ e. ⊎_elim (λ w. absurd (omega (arith, w.0))) (λ w. (w.1, w.2)) (reasons.0 (sym answer_lent ∙ e)), λ w. answer_lent ∙ reasons.1 (inr (refl, w.0, w.1)))
 
-  pub trim_once : (r q : Trimmed) (c d o p : List ℕ) → Meets s scratch out (trimmed_as r) c o → Meets s scratch out (trimmed_as q) d p → (r ≡ q) × (c ≡ d) × (o ≡ p)
-  trim_once r q c d o p a b = (once trimmed_as back back_as r q a.0 b.0, a.1.0 ∙ sym b.1.0, a.1.1 ∙ sym b.1.1) where
-    back : Answer ℕ → Trimmed
-    back (refused k) = trimmed.Refused k
-    back (answered n) = trimmed.Bytes n
-
-    back_as : (r : Trimmed) → back (trimmed_as r) ≡ r
-    back_as (trimmed.Refused k) = refl
-    back_as (trimmed.Bytes n) = refl
+  pub trim_once : (r q : Result ℕ Refusal) (c d o p : List ℕ) → Meets s scratch out (trimmed_as r) c o → Meets s scratch out (trimmed_as q) d p
+      → (r ≡ q) × (c ≡ d) × (o ≡ p)
+  trim_once r q c d o p a b = (told_once (λ n. n) (λ n. n) (λ n. refl) r q a.0 b.0, a.1.0 ∙ sym b.1.0, a.1.1 ∙ sym b.1.1)

@@ -1,13 +1,15 @@
 -- The loops that write a table's bytes, and what a trimmed state's byte is.
 use Prim.Native.Nat.{ℕ, ◌+◌, ◌*◌, ◌-◌, ◌<◌, ◌≤◌}
-use mathlib.Core.Bool.{Bool, true, false, cond, ◌&&◌}
+use mathlib.Core.Bool.{Bool, true, false, ◌&&◌}
 use mathlib.Core.List.{List, [], ◌∷◌, ◌++◌}
 use mathlib.Core.Path.{◌≡◌, refl, sym, ap, subst, ◌∙◌}
+use native.Mathlib.Decide.{ℕ_discrete}
 use native.Mathlib.Numerals.{add-one}
 use native.Mathlib.Omega.{arith}
 use lib.Dec.{T, eqb}
-use lib.ListN.{length, get_or, set, take, drop, length-take, length-append}
-use lib.Seq.{take-suc, take_all, get_or-take, ext_get_or}
+use mir.Val.{bool_byte}
+use lib.ListN.{length, get_or, set, take, drop, length-take, length-drop, length-append}
+use lib.Seq.{take-suc, get_or-take, ext_get_or, get_or-set_same, get_or-set_other}
 use Rattle.vpa.specs.PairsComputed.{initial_to_final?}
 use Rattle.vpa.specs.TableOnDisk.{Entry, Table, state_count, letter_count, initial?, final?}
 use Rattle.vpa.specs.TrimComputed.{no_trio, state_byte, trim_byte, trim_from, trim_table, trim_states}
@@ -25,15 +27,24 @@ use Rattle.triples.specs.Listing.{Laid}
 use Rattle.triples.specs.Steps.{Columns}
 use Rattle.trim.specs.Steps.{head_bytes, ListedIn}
 use Rattle.trim.proofs.CallLaws.{within_yes, trimmed_storable}
-use Rattle.triples.proofs.Laying.{laid_none, laid_more, laid_then}
+use Rattle.triples.proofs.Laying.{laid_more, laid_then}
+
+-- The part of a list that is written.
+pub part_count : (place count : ℕ) (s : List ℕ) → place + count ≤ length s → length (take (place + count - place) (drop place s)) ≡ count
+part_count place count s l = omega (arith, length-take (place + count - place) (drop place s), length-drop place s)
+
+-- One more number of a list is the other list's.
+pub one_more : (xs ys : List ℕ) {i v : ℕ} → ((k : ℕ) → k < i → get_or xs k 0 ≡ get_or ys k 0) → i < length xs → v ≡ get_or ys i 0
+    → (k : ℕ) → k < i + 1 → get_or (set xs i v) k 0 ≡ get_or ys k 0
+one_more xs ys {i} {v} same l e k m = by (ℕ_discrete k i) where
+  by : Dec (k ≡ i) → get_or (set xs i v) k 0 ≡ get_or ys k 0
+  by (yes q) = rw q (get_or-set_same xs i v 0 l ∙ e)
+  by (no q) = get_or-set_other xs i k v 0 q ∙ same k (omega arith)
 
 -- The first n of some numbers are laid down.
 pub record LaidSoFar (place : ℕ) (numbers before : List ℕ) (n : ℕ) (after : List ℕ) : Type 0 where
   pub is : Laid place (take n numbers) before after
   pub most : n ≤ length numbers
-
-pub so_far_none : (place : ℕ) (numbers s : List ℕ) → LaidSoFar place numbers s 0 s
-so_far_none place numbers s = record { is = laid_none place s; most = omega arith }
 
 pub so_far_more : {place : ℕ} {numbers before : List ℕ} {n : ℕ} {after : List ℕ} {v : ℕ} → get_or numbers n 0 ≡ v → n < length numbers → place + n < length before
     → LaidSoFar place numbers before n after → LaidSoFar place numbers before (n + 1) (set after (place + n) v)
@@ -44,11 +55,8 @@ so_far_more {place} {numbers} {before} {n} {after} {v} e l room h = record {
   most = omega arith;
 }
 
-pub so_far_all : {place : ℕ} {numbers before : List ℕ} {n : ℕ} {after : List ℕ} → length numbers ≤ n → LaidSoFar place numbers before n after → Laid place numbers before after
-so_far_all {numbers = numbers} {n = n} l h = rw (take_all n numbers l) at h.is
-
 -- A trimmed state's byte is the sum of its two bits, which are 0 where the level is not from an initial to a final state.
-bits : (i f : Bool) → state_byte i f ≡ cond i 1 0 + cond f 2 0
+bits : (i f : Bool) → state_byte i f ≡ bool_byte i + 2 * bool_byte f
 unfolding state_byte
 bits true true = refl
 bits true false = refl
@@ -63,17 +71,14 @@ with_false : (b : Bool) → (b && false) ≡ false
 with_false true = refl
 with_false false = refl
 
-pub byte_atop : (t : Table) (o q p : ℕ) {a b : Bool} {x y : ℕ} → initial? t o ≡ a → final? t q ≡ b → (a && b) ≡ true → cond (eqb p o) 1 0 ≡ x → cond (eqb p q) 2 0 ≡ y → trim_byte t (o, q, p) ≡ x + y
+pub byte_atop : (t : Table) (o q p : ℕ) {a b : Bool} {x y : ℕ} → initial? t o ≡ a → final? t q ≡ b → (a && b) ≡ true → x ≡ bool_byte (eqb p o) → y ≡ bool_byte (eqb p q)
+    → trim_byte t (o, q, p) ≡ x + 2 * y
 unfolding trim_byte initial_to_final?
-byte_atop t o q p i f atop e g = rw (i, f, atop, with_true (eqb p o), with_true (eqb p q)) (bits (eqb p o) (eqb p q) ∙ rw (e, g))
+byte_atop t o q p i f atop e g = rw (i, f, atop, with_true (eqb p o), with_true (eqb p q), e, g) (bits (eqb p o) (eqb p q))
 
 pub byte_inside : (t : Table) (o q p : ℕ) {a b : Bool} → initial? t o ≡ a → final? t q ≡ b → (a && b) ≡ false → trim_byte t (o, q, p) ≡ 0
 unfolding trim_byte initial_to_final? state_byte
 byte_inside t o q p i f inside = rw (i, f, inside, with_false (eqb p o), with_false (eqb p q))
-
-pub flag_most : (b : Bool) (v : ℕ) {r : ℕ} → cond b v 0 ≡ r → r ≤ v
-flag_most true v e = omega arith
-flag_most false v e = omega arith
 
 -- The byte of state number i, by the columns of the states; there are as many bytes as states.
 module _ (t : Table) {r : Trios} (h : Columns (trim_states t) r) where

@@ -1,6 +1,5 @@
 -- The digits of a number as a list: which they are, how many, how a walk from the lowest finds them, and rows of digits as a list of pairs.
-use Prim.Native.Nat.{ℕ, zero, suc, ◌-◌, ◌^◌, ◌≤◌, ◌<◌}
-use native.Mathlib.Decide.{ℕ_discrete, dec_lt}
+use Prim.Native.Nat.{ℕ, zero, suc, ◌^◌, ◌≤◌, ◌<◌}
 use native.Mathlib.Numerals.{add-one}
 use native.Mathlib.Omega.{arith}
 use mathlib.Core.Bool.{Bool, true, false, cond, ◌&&◌}
@@ -10,15 +9,16 @@ use mathlib.Core.Logic.{◌↔◌, inl, inr}
 use mathlib.Core.Path.{◌≡◌, refl, sym, ap, ◌∙◌}
 use borrow.Author.Tests.{eqb-false}
 use lib.Bits.{bit_and}
-use lib.Count.{ones, count_trailing_zeros}
+use lib.Count.{ones}
 use lib.Dec.{T, eqb, eqb→eq}
 use lib.ListN.{length, get_or, length-append}
-use Rattle.vpa.specs.Lists.{Pair, sift, each, up_from, below, Sorted, sorted_more, PairBefore}
-use Rattle.vpa.proofs.Lists.{both, and, sift_intro, sift_elim, each_intro, each_elim, no_members, below_intro, below_elim, sorted_sift, sorted_map, sorted_each, sorted_below}
+use Rattle.vpa.specs.Lists.{Pair, sift, each, up_from, below, Sorted, PairBefore}
+use Rattle.vpa.proofs.Lists.{both, and, sift_intro, sift_elim, each_intro, each_elim, below_intro, below_elim, sorted_sift, sorted_map, sorted_each, sorted_below}
 use Rattle.vpa.proofs.Each.{sorted_same, pair_one_way, each_sift, below_more, sift_below, sift_append}
-use Rattle.relation.specs.Digits.{bit, total}
+use Rattle.std.specs.List.{filter, range_with_len}
+use Rattle.relation.specs.Digits.{bit, total, ones_of}
 use Rattle.relation.specs.Relations.{Holds, holds?, HoldsExactly, IsRelation}
-use Rattle.relation.proofs.Digits.{bit_lt, bit_zero, Drop, lowest, before_lowest, ones_total, total_equal}
+use Rattle.relation.proofs.Digits.{bit_lt, ones_total, total_equal}
 use Rattle.relation.proofs.Relations.{held_iff_test, holds_inside, and_digit}
 use Rattle.nesting.proofs.ListedRows.{Listed}
 use Rattle.triples.specs.Listing.{digits_of}
@@ -34,42 +34,22 @@ pub digits_sorted : (x : ℕ) → Sorted ◌<◌ (digits_of x)
 unfolding digits_of
 digits_sorted x = sorted_sift ◌<◌ _ (sorted_below 64)
 
-pub digits_none : digits_of 0 ≡ []
-digits_none = no_members (digits_of 0) (λ k m. omega (arith, (digits_iff 0 k).0 m, bit_zero k))
-
 -- Of the lists in order, one only has these digits.
 these_digits : (x : ℕ) {xs : List ℕ} → Sorted ◌<◌ xs → ((k : ℕ) → Memᴰ k xs ↔ ((k < 64) × (bit x k ≡ 1))) → digits_of x ≡ xs
 these_digits x d h = sorted_same (λ i j l m. omega arith) (digits_sorted x) d (λ k. (λ m. (h k).1 ((digits_iff x k).0 m), λ m. (digits_iff x k).1 ((h k).0 m)))
 
--- One step of a walk from the lowest digit.
-pub digits_lowest : (z : ℕ) → 0 < z → z < 2 ^ 64 → digits_of z ≡ count_trailing_zeros 64 z ∷ digits_of (bit_and z (z - 1))
-digits_lowest z p l =
-    these_digits z (sorted_more (λ k m. later k ((digits_iff rest k).0 m).1 (dec_lt low k)) (digits_sorted rest))
-    (λ k. (forth k, λ h. back k h (ℕ_discrete k low)))
-  where
-    low : ℕ
-    low = count_trailing_zeros 64 z
+-- They are what the iterator over a word gives.
+sift_filter : (f : ℕ → Bool) (n a : ℕ) → sift f (up_from n a) ≡ filter f (range_with_len a n)
+unfolding sift up_from
+sift_filter f zero a = refl
+sift_filter f (suc n) a = rw (add-one a, sym (sift_filter f n (suc a))) (by (f a)) where
+  by : (b : Bool) → elim b [ true ↦ a ∷ sift f (up_from n (suc a)) | false ↦ sift f (up_from n (suc a)) ] ≡ cond b (a ∷ sift f (up_from n (suc a))) (sift f (up_from n (suc a)))
+  by true = refl
+  by false = refl
 
-    rest : ℕ
-    rest = bit_and z (z - 1)
-
-    d : Drop 64 z low rest
-    d = lowest 64 z p l
-
-    other : (k : ℕ) → bit rest k ≡ 1 → k ≡ low → ⊥
-    other k e q = omega (arith, d.gone, ap (bit rest) q)
-
-    later : (k : ℕ) → bit rest k ≡ 1 → Dec (low < k) → low < k
-    later k e (yes q) = q
-    later k e (no q) = absurd (omega (arith, before_lowest 64 z k (omega (arith, other k e)), d.kept k (other k e)))
-
-    forth : (k : ℕ) → Memᴰ k (low ∷ digits_of rest) → (k < 64) × (bit z k ≡ 1)
-    forth k (Memᴰ.head e) = rw e (d.low, d.set)
-    forth k (Memᴰ.tail m) = let h = (digits_iff rest k).0 m in (h.0, sym (d.kept k (other k h.1)) ∙ h.1)
-
-    back : (k : ℕ) → (k < 64) × (bit z k ≡ 1) → Dec (k ≡ low) → Memᴰ k (low ∷ digits_of rest)
-    back k h (yes e) = Memᴰ.head e
-    back k h (no e) = Memᴰ.tail ((digits_iff rest k).1 (h.0, d.kept k e ∙ h.1))
+pub digits_ones : (x : ℕ) → ones_of x ≡ digits_of x
+unfolding digits_of ones_of below
+digits_ones x = sym (sift_filter (λ k. eqb (bit x k) 1) 64 0)
 
 -- As many numbers pass a test as its values, 1 where it passes, add up to.
 sift_length : (f : ℕ → Bool) (n : ℕ) → length (sift f (below n)) ≡ total n (λ k. cond (f k) 1 0)

@@ -5,10 +5,9 @@ use mathlib.Core.Path.{◌≡◌, refl, sym, subst, ◌∙◌}
 use native.Mathlib.Decide.{dec_lt}
 use native.Mathlib.Nat.{zero-add, add-zero, add_assoc}
 use native.Mathlib.Omega.{arith}
-use mir.Syntax.{w64}
-use mir.Val.{Fits}
 use borrow.Author.Tests.{le-leb, lt-leb}
-use lib.ListN.{length, get_or, set, drop, length-append, length-set, length-drop, length-map, get_or-append}
+use Rattle.std.proofs.lemmas.Grind.{common_steps}
+use lib.ListN.{length, get_or, set, take, drop, length-append, length-set, length-drop, length-map, get_or-append}
 use lib.Seq.{get_or-append-add, get_or-set_same, get_or-set_other, get_or-drop, ext_get_or}
 use Rattle.vpa.specs.TableOnDisk.{Entry, entry}
 use Rattle.table.specs.Layout.{move_bytes}
@@ -16,10 +15,6 @@ use Rattle.table.proofs.Entries.{entries_moves, length_moves, move_in, entries_g
 use Rattle.nesting.specs.Scratch.{KeptFrom}
 use Rattle.nesting.proofs.Cleared.{kept_none, kept_then}
 use Rattle.triples.specs.Listing.{rows_with, Laid, capped, Appended}
-
--- A place in an array of 64 numbers of eight bytes each, counted in bytes.
-pub bytes_fit : {i : ℕ} → i < 64 → Fits w64 (i * 8)
-bytes_fit l = record { fits = omega arith }
 
 -- Past the first of two lists stand the numbers of the second.
 get_past : (xs ys : List ℕ) (i : ℕ) → length xs ≤ i → get_or (xs ++ ys) i 0 ≡ get_or ys (i - length xs) 0
@@ -145,17 +140,19 @@ pub rows_laid : {most count : ℕ} {rows : List Entry} {a b : List ℕ} → coun
     → Appended most rows a count b (count + length rows)
 rows_laid {rows = rows} l h = record { counted = sym (capped_fits l); kept = laid_kept h (omega (arith, length_moves rows)); laid = λ m. h }
 
--- A row is four stores.
-four_laid : (s : List ℕ) (i x y z w : ℕ) → i + 3 < length s → Laid i (x ∷ y ∷ z ∷ w ∷ []) s (set (set (set (set s i x) (i + 1) y) (i + 2) z) (i + 3) w)
-four_laid s i x y z w l =
-    laid_more w (laid_more z (laid_more y (one_laid s i x (omega arith)) refl (omega arith)) refl (omega arith)) refl l
+-- Numbers put in the place of as many are laid down there.
+pub put_laid : (place count : ℕ) (numbers before : List ℕ) → length numbers ≡ count → place + count ≤ length before
+    → Laid place numbers before (take place before ++ (numbers ++ drop count (drop place before)))
+put_laid place count numbers before e l = grind (arith, common_steps)
 
+-- A row more.
 pub row_more : {place at : ℕ} (es : List Entry) {before after : List ℕ} (x y z w : ℕ) → Laid place (move_bytes es) before after
-    → at ≡ place + 4 * length es → at + 3 < length before
-    → Laid place (move_bytes (es ++ (entry x y z w ∷ []))) before (set (set (set (set after at x) (at + 1) y) (at + 2) z) (at + 3) w)
+    → at ≡ place + 4 * length es → at + 4 ≤ length before
+    → Laid place (move_bytes (es ++ (entry x y z w ∷ []))) before (take at after ++ ((x ∷ y ∷ z ∷ w ∷ []) ++ drop 4 (drop at after)))
 unfolding move_bytes
 row_more {at = at} es {after = after} x y z w h e l =
-    rw (moves_append es (entry x y z w ∷ [])) (laid_then h (omega (arith, length_moves es)) (four_laid after at x y z w (omega arith)))
+    rw (moves_append es (entry x y z w ∷ []))
+    (laid_then h (omega (arith, length_moves es)) (put_laid at 4 (x ∷ y ∷ z ∷ w ∷ []) after refl (omega (arith, h.long))))
 
 -- A row as it is read back.
 row_bytes : (es : List Entry) (k : ℕ) → k < length es → (d : Entry) → get_or es k d ≡ move_in (move_bytes es) (4 * k)

@@ -1,15 +1,15 @@
 -- The trimmed marks over one mark of the table: which levels they stand for, how their rows lie in scratch, and the ways in and out that are gathered for
 -- each of them by its number.
-use Prim.Native.Nat.{ℕ, ◌+◌, ◌*◌, ◌-◌, ◌<◌, ◌≤◌, max}
+use Prim.Native.Nat.{ℕ, ◌+◌, ◌*◌, ◌-◌, ◌<◌, ◌≤◌}
 use mathlib.Core.List.Memᴰ
 use mathlib.Core.List.{List, ◌++◌, map, map-map, Memᴰ}
 use mathlib.Core.Logic.{◌↔◌}
 use mathlib.Core.Path.{◌≡◌, refl, sym, ap, subst, ◌∙◌}
-use native.Mathlib.Decide.{ℕ_discrete, dec_lt}
+use native.Mathlib.Decide.{dec_lt}
 use native.Mathlib.Omega.{arith}
 use lib.Dec.{T, eqb, eqb→eq}
-use lib.ListN.{length, get_or, set, replicate, length-append, get_or-append}
-use lib.Seq.{get_or-append-add, get_or-set_same, get_or-set_other}
+use lib.ListN.{length, get_or, replicate, length-append, get_or-append, get_or-eq_default}
+use lib.Seq.{get_or-append-add}
 use Rattle.vpa.specs.Automaton.{opening, closing}
 use Rattle.vpa.specs.Lists.{Pair, Trio, each, up_from, below, among, Sorted, PairBefore}
 use Rattle.vpa.specs.PairsComputed.{open?, close?, opens_to?, closes_to?, opens?, pairs, levels}
@@ -167,29 +167,21 @@ module _ (s : List ℕ) (good : verdict s ≡ 0) (γ : ℕ) where
       let held : HoldsExactly live (Listed (levels (parse s))) = rw f (rows_listed (levels (parse s)) (levels_inside s good)) in
       appended_same (mark_rows (parse s) γ is (opening_levels (parse s) γ held (balanced e) i u d g h))
 
--- Rows gathered, one more at a time.
-pub gathers_none : (rows : List ℕ) (from : ℕ) (s : List ℕ) (place : ℕ) (r : List ℕ) → Gathers rows from from s place r rows
-gathers_none rows from s place r = record { new = λ k l m. absurd (omega arith); before = λ k l. refl; past = λ k l. refl }
+-- Rows gathered, each by itself.
+old_row : (rows after : List ℕ) → length rows ≡ 64 → length after ≡ 64 → (k : ℕ) → (k < 64 → get_or after k 0 ≡ get_or rows k 0) → Dec (k < 64)
+    → get_or after k 0 ≡ get_or rows k 0
+old_row rows after long made k h (yes l) = h l
+old_row rows after long made k h (no l) = get_or-eq_default after 0 (omega (arith, made)) ∙ sym (get_or-eq_default rows 0 (omega (arith, long)))
 
-pub gathers_more : {rows s r a : List ℕ} {from n place v : ℕ} → Gathers rows from n s place r a → from ≤ n → n < length a → get_or s (4 * n + place) 0 ≡ v
-    → Gathers rows from (n + 1) s place r (set a n (get_or r v 0))
-gathers_more {rows} {s} {r} {a} {from} {n} {place} {v} h l m e = record {
-  new = λ k f g. new k f g (ℕ_discrete k n);
-  before = λ k f. other k (omega arith) ∙ h.before k f;
-  past = λ k f. other k (omega arith) ∙ h.past k (omega arith);
-} where
-  other : (k : ℕ) → (k ≡ n → ⊥) → get_or (set a n (get_or r v 0)) k 0 ≡ get_or a k 0
-  other k q = get_or-set_other a n k (get_or r v 0) 0 q
-
-  new : (k : ℕ) → from ≤ k → k < n + 1 → Dec (k ≡ n) → get_or (set a n (get_or r v 0)) k 0 ≡ get_or r (get_or s (4 * k + place) 0) 0
-  new k f g (yes q) = rw (q, e) (get_or-set_same a n (get_or r v 0) 0 m)
-  new k f g (no q) = other k q ∙ h.new k f (omega arith)
-
-pub gathers_all : {rows s r a : List ℕ} {from to n place : ℕ} → Gathers rows from n s place r a → to ≤ n → n ≤ max from to → Gathers rows from to s place r a
-gathers_all {rows} {a = a} {from} {to} {n} h l m = record { new = λ k f g. h.new k f (omega arith); before = h.before; past = λ k f. past k f (dec_lt k n) } where
-  past : (k : ℕ) → to ≤ k → Dec (k < n) → get_or a k 0 ≡ get_or rows k 0
-  past k f (yes q) = h.before k (omega arith)
-  past k f (no q) = h.past k (omega arith)
+module _ {rows s r after : List ℕ} {from to place : ℕ} (long : length rows ≡ 64) (made : length after ≡ 64) where
+  pub gathers_made : to ≤ 64 → ((k : ℕ) → k < 64 → from ≤ k → k < to → get_or after k 0 ≡ get_or r (get_or s (4 * k + place) 0) 0)
+      → ((k : ℕ) → k < 64 → k < from → get_or after k 0 ≡ get_or rows k 0) → ((k : ℕ) → k < 64 → to ≤ k → get_or after k 0 ≡ get_or rows k 0)
+      → Gathers rows from to s place r after
+  gathers_made most new before past = record {
+    new = λ k l m. new k (omega arith) l m;
+    before = λ k l. old_row _ _ long made k (λ m. before k m l) (dec_lt k 64);
+    past = λ k l. old_row _ _ long made k (λ m. past k m l) (dec_lt k 64);
+  }
 
 -- W says of a list of marks what their rows hold: row k what P says of mark number k. Rows of further marks gathered after theirs make the rows of all.
 module _ (W : List Trio → ℕ → ℕ → Type 0) (P : Trio → ℕ → Type 0) (means : (ms : List Trio) (k y : ℕ) → W ms k y ↔ ((k < length ms) × P (get_or ms k no_trio) y)) where

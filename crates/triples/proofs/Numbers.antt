@@ -91,16 +91,6 @@ module _ {begun ending first second : List ℕ} {n i : ℕ} where
   pub levels_all : {r : List ℕ} → n ≤ i → Built (OnLevel begun ending first second n) i r → HoldsExactly r (OnLevel begun ending first second n)
   levels_all l h = built_all l (λ j k w. w.low) h
 
--- The relations that are asked hold numbers by value: what they tell is that the values are the same.
-pub same_values : {first second begun ending first' second' r : List ℕ} {n n' : ℕ} → HoldsExactly begun (NumberAt first n) → HoldsExactly ending (NumberAt second n)
-    → HoldsExactly r (OnLevel begun ending first' second' n') → HoldsExactly r (SameValues first' second' n' first second n)
-same_values b e h =
-    exactly h
-    (λ i j w.
-    let x = (b.at _ j).0 w.begins in
-    record { from = w.low; to = x.low; begins = sym x.is; ends = sym ((e.at _ j).0 w.ends).is })
-    (λ i j w. record { low = w.from; begins = (b.at _ j).1 (record { low = w.to; is = sym w.begins }); ends = (e.at _ j).1 (record { low = w.to; is = sym w.ends }) })
-
 -- THE PLAN
 
 -- With the columns of ss, and the ways of ms, what is said of values is said of these lists.

@@ -1,18 +1,16 @@
 -- How rows come to be listed, and how they are read back: a walk over the digits of a row, from the lowest on, that writes or appends rows for each of
 -- them, one over all numbers below a bound, and columns of the rows.
-use Prim.Native.Nat.{ℕ, ◌+◌, ◌*◌, ◌-◌, ◌^◌, ◌<◌, ◌≤◌}
+use Prim.Native.Nat.{ℕ, ◌+◌, ◌*◌, ◌^◌, ◌<◌, ◌≤◌}
 use mathlib.Core.Bool.{Bool, ◌&&◌}
-use mathlib.Core.List.{List, [], ◌∷◌, ◌++◌, map, map-map, map-append, append-nil, append_assoc}
+use mathlib.Core.List.{List, [], ◌∷◌, ◌++◌, map, map-map, map-append, append-nil}
 use mathlib.Core.Logic.{◌↔◌}
-use mathlib.Core.Path.{◌≡◌, refl, sym, ap, ◌∙◌}
-use native.Mathlib.Decide.{ℕ_discrete}
+use mathlib.Core.Path.{◌≡◌, sym, ap, ◌∙◌}
 use native.Mathlib.Nat.{zero-add}
 use native.Mathlib.Omega.{arith}
-use lib.Bits.{bit_and, and_le_l}
-use lib.Count.{ones, count_trailing_zeros}
+use lib.Bits.{bit_and}
+use lib.Count.{ones}
 use lib.Dec.{T}
-use lib.ListN.{length, get_or, set, replicate, length-append, length-set, length-map, get_or-map}
-use lib.Seq.{get_or-set_same, get_or-set_other}
+use lib.ListN.{length, get_or, take, drop, length-append, length-map, get_or-map}
 use Rattle.vpa.specs.Lists.{Pair, Trio, sift, each, up_from, below, among}
 use Rattle.vpa.specs.TableOnDisk.{Entry, entry, state_count}
 use Rattle.vpa.specs.PairsComputed.{pairs, levels}
@@ -24,7 +22,8 @@ use Rattle.vpa.proofs.TableLevels.{levels_sorted}
 use Rattle.table.specs.Layout.{move_bytes, parse}
 use Rattle.table.specs.Refusals.{verdict}
 use Rattle.relation.specs.Relations.{holds?, HoldsExactly, Turned}
-use Rattle.relation.proofs.Digits.{lowest}
+use Rattle.relation.specs.Digits.{ones_of}
+use Rattle.relation.proofs.OnesListed.{Come, come_none, come_more, come_next, come_all}
 use Rattle.relation.proofs.Relations.{held_iff_test}
 use Rattle.relation.proofs.RowsOf.{rows_relation}
 use Rattle.nesting.specs.Calls.{rows}
@@ -33,56 +32,32 @@ use Rattle.nesting.proofs.CallLaws.{pairs_inside, levels_inside}
 use Rattle.triples.specs.Listing.{digits_of, rows_with, trio_rows, Laid, Appended}
 use Rattle.triples.specs.declared.Trios.{Trios}
 use Rattle.triples.specs.Steps.{Column, Columns, states_on, states_from, state_rows}
-use Rattle.triples.proofs.DigitLists.{digits_none, digits_lowest, digits_length, digit_iff, digit_test, digits_both, pairs_by_rows}
+use Rattle.triples.proofs.DigitLists.{digits_ones, digits_length, digit_iff, digit_test, digits_both, pairs_by_rows}
 use Rattle.triples.proofs.Laying.{laid_none, appended_none, appended_then, appended_same, appended_count, rows_skip, rows_laid, row_more, row_at, rows_one, rows_length}
 
--- A walk over the digits of row: those that it has come by, and rest that has the others.
-pub record Walk (row rest : ℕ) (done : List ℕ) : Type 0 where
-  pub split : digits_of row ≡ done ++ digits_of rest
-  pub fits : rest < 2 ^ 64
-
-walk_start : {row : ℕ} → row < 2 ^ 64 → Walk row row []
-walk_start l = record { split = refl; fits = l }
-
-walk_step : {row rest : ℕ} {done : List ℕ} → 0 < rest → Walk row rest done → Walk row (bit_and rest (rest - 1)) (done ++ (count_trailing_zeros 64 rest ∷ []))
-walk_step {rest = rest} {done} p w = record {
-  split =
-      w.split ∙ ap (λ ks. done ++ ks) (digits_lowest rest p w.fits)
-      ∙ sym (append_assoc done (count_trailing_zeros 64 rest ∷ []) (digits_of (bit_and rest (rest - 1))));
-  fits = omega (arith, w.fits, and_le_l rest (rest - 1));
-}
-
-pub walk_low : {row rest : ℕ} {done : List ℕ} → 0 < rest → Walk row rest done → count_trailing_zeros 64 rest < 64
-walk_low {rest = rest} p w = (lowest 64 rest p w.fits).low
-
-walk_end : {row rest : ℕ} {done : List ℕ} → rest ≡ 0 → Walk row rest done → digits_of row ≡ done
-walk_end {done = done} e w = w.split ∙ ap (λ ks. done ++ ks) (ap digits_of e ∙ digits_none) ∙ append-nil done
-
--- Rows appended for each of the digits that a walk has come by.
-pub record WalkedRows (most : ℕ) (f : ℕ → List Entry) (row rest : ℕ) (before : List ℕ) (count : ℕ) (after : List ℕ) (total : ℕ) : Type 0 where
-  pub done : List ℕ
-  pub walk : Walk row rest done
+-- Rows appended for each of the digits of a word that have come.
+pub record WalkedRows (most : ℕ) (f : ℕ → List Entry) (row : ℕ) (done left before : List ℕ) (count : ℕ) (after : List ℕ) (total : ℕ) : Type 0 where
+  pub come : Come row done left
   pub appended : Appended most (each f done) before count after total
 
 module _ {most : ℕ} {f : ℕ → List Entry} {row : ℕ} where
-  pub walk_none : {count : ℕ} (s : List ℕ) → row < 2 ^ 64 → count ≤ most + 1 → WalkedRows most f row row s count s count
+  pub walk_none : {left : List ℕ} {count : ℕ} (s : List ℕ) → left ≡ ones_of row → count ≤ most + 1 → WalkedRows most f row [] left s count s count
   unfolding each
-  walk_none s l m = record { done = []; walk = walk_start l; appended = appended_none s m }
+  walk_none s e m = record { come = come_none e; appended = appended_none s m }
 
-  pub walk_more : {rest n m k : ℕ} {a b c : List ℕ} → 0 < rest → WalkedRows most f row rest a n b m → Appended most (f (count_trailing_zeros 64 rest)) b m c k
-      → WalkedRows most f row (bit_and rest (rest - 1)) a n c k
-  unfolding each
-  walk_more {rest} p w h = record {
-    done = w.done ++ (count_trailing_zeros 64 rest ∷ []);
-    walk = walk_step p w.walk;
-    appended =
-        appended_same
-        (sym (each_append f w.done (count_trailing_zeros 64 rest ∷ []) ∙ ap (λ es. each f w.done ++ es) (append-nil (f (count_trailing_zeros 64 rest)))))
-        (appended_then w.appended h);
-  }
+  module _ {done left : List ℕ} {n m : ℕ} {a b : List ℕ} (w : WalkedRows most f row done left a n b m) where
+    pub walk_more : {q k : ℕ} {next c : List ℕ} → left ≡ q ∷ next → Appended most (f q) b m c k → WalkedRows most f row (done ++ q ∷ []) next a n c k
+    unfolding each
+    walk_more {q} e h = record {
+      come = come_more w.come e;
+      appended = appended_same (sym (each_append f done (q ∷ []) ∙ ap (λ es. each f done ++ es) (append-nil (f q)))) (appended_then w.appended h);
+    }
 
-  pub walk_all : {rest n m : ℕ} {a b : List ℕ} → rest ≡ 0 → WalkedRows most f row rest a n b m → Appended most (each f (digits_of row)) a n b m
-  walk_all e w = appended_same (ap (each f) (sym (walk_end e w.walk))) w.appended
+    pub walk_low : {q : ℕ} {next : List ℕ} → left ≡ q ∷ next → q < 64
+    walk_low e = (come_next w.come e).0
+
+    pub walk_all : left ≡ [] → Appended most (each f (digits_of row)) a n b m
+    walk_all e = appended_same (ap (each f) (come_all w.come e ∙ digits_ones row)) w.appended
 
 -- Rows appended for each number below n.
 pub record ListedBelow (most : ℕ) (f : ℕ → List Entry) (n : ℕ) (before : List ℕ) (count : ℕ) (after : List ℕ) (total : ℕ) : Type 0 where
@@ -99,37 +74,38 @@ module _ {most : ℕ} {f : ℕ → List Entry} where
   pub listed_all : {n i m : ℕ} {a b : List ℕ} → n ≡ 64 → ListedBelow most f n a i b m → Appended most (each f (below 64)) a i b m
   listed_all e h = appended_same (ap (λ n. each f (below n)) e) h.appended
 
--- Rows written for each of the digits that a walk has come by.
-pub record WrittenSoFar (count x y z last : ℕ) (before : List ℕ) (rest at : ℕ) (after : List ℕ) : Type 0 where
-  pub done : List ℕ
+-- Rows written for each of the digits of a word that have come.
+pub record WrittenSoFar (count x y z last : ℕ) (before done left : List ℕ) (at : ℕ) (after : List ℕ) : Type 0 where
+  pub come : Come last done left
   pub place : at ≡ 4 * count + 4 * length done
   pub laid : Laid (4 * count) (move_bytes (rows_with x y z done)) before after
-  pub walk : Walk last rest done
 
 module _ {count x y z last : ℕ} where
-  pub written_none : (s : List ℕ) → last < 2 ^ 64 → WrittenSoFar count x y z last s last (4 * count) s
+  pub written_none : {left : List ℕ} (s : List ℕ) → left ≡ ones_of last → WrittenSoFar count x y z last s [] left (4 * count) s
   unfolding rows_with move_bytes
-  written_none s l = record { done = []; place = omega arith; laid = laid_none (4 * count) s; walk = walk_start l }
+  written_none s e = record { come = come_none e; place = omega arith; laid = laid_none (4 * count) s }
 
-  module _ {rest at : ℕ} {before after : List ℕ} (w : WrittenSoFar count x y z last before rest at after) where
-    pub written_room : 0 < rest → count + length (digits_of last) ≤ 1024 → at + 4 ≤ 4096
-    written_room p l =
-        omega (arith, w.place, ap length w.walk.split, length-append w.done (digits_of rest), ap length (digits_lowest rest p w.walk.fits))
+  module _ {at : ℕ} {before done left after : List ℕ} (w : WrittenSoFar count x y z last before done left at after) where
+    module _ {k : ℕ} {next : List ℕ} (e : left ≡ k ∷ next) where
+      pub written_low : k < 64
+      written_low = (come_next w.come e).0
 
-    pub written_more : 0 < rest → at + 3 < length before
-        → WrittenSoFar count x y z last before (bit_and rest (rest - 1)) (at + 4)
-        (set (set (set (set after at x) (at + 1) y) (at + 2) z) (at + 3) (count_trailing_zeros 64 rest))
-    written_more p l = record {
-      done = w.done ++ (count_trailing_zeros 64 rest ∷ []);
-      place = omega (arith, w.place, length-append w.done (count_trailing_zeros 64 rest ∷ []));
-      laid =
-          rw (rows_one x y z (count_trailing_zeros 64 rest) w.done)
-          (row_more (rows_with x y z w.done) x y z (count_trailing_zeros 64 rest) w.laid (omega (arith, w.place, rows_length x y z w.done)) l);
-      walk = walk_step p w.walk;
-    }
+      pub written_room : count + length (digits_of last) ≤ 1024 → at + 4 ≤ 4096
+      written_room l =
+          omega (arith, w.place, ap length (w.come.all ∙ digits_ones last), length-append done left, ap length e)
 
-    pub written_all : rest ≡ 0 → Laid (4 * count) (move_bytes (rows_with x y z (digits_of last))) before after
-    written_all e = rw (walk_end e w.walk) w.laid
+      pub written_more : {row : List ℕ} {n : ℕ} → row ≡ x ∷ y ∷ z ∷ k ∷ [] → n ≡ 4 → at + 4 ≤ length before
+          → WrittenSoFar count x y z last before (done ++ k ∷ []) next (at + 4) (take at after ++ (row ++ drop n (drop at after)))
+      written_more is four l = record {
+        come = come_more w.come e;
+        place = omega (arith, w.place, length-append done (k ∷ []));
+        laid =
+            rw (rows_one x y z k done, is, four)
+            (row_more (rows_with x y z done) x y z k w.laid (omega (arith, w.place, rows_length x y z done)) l);
+      }
+
+    pub written_all : left ≡ [] → Laid (4 * count) (move_bytes (rows_with x y z (digits_of last))) before after
+    written_all e = rw (come_all w.come e ∙ digits_ones last) at w.laid
 
 -- Rows appended or left out, by the number of digits.
 module _ (x y z : ℕ) {last : ℕ} (fits : last < 2 ^ 64) where
@@ -142,18 +118,6 @@ module _ (x y z : ℕ) {last : ℕ} (fits : last < 2 ^ 64) where
   pub append_laid : {most count : ℕ} {a b : List ℕ} → count + ones last ≤ most → Laid (4 * count) (move_bytes (rows_with x y z (digits_of last))) a b
       → Appended most (rows_with x y z (digits_of last)) a count b (count + ones last)
   append_laid l h = rw (sym rows_ones) (rows_laid (omega (arith, rows_ones)) h)
-
--- One number of each row, read one by one.
-module _ (scratch : List ℕ) (place : ℕ) where
-  pub column_none : Column scratch place 0 (replicate 64 0)
-  column_none = record { long = refl; at = λ i l. absurd (omega arith) }
-
-  pub column_more : {n v : ℕ} {values : List ℕ} → n < 64 → v ≡ get_or scratch (4 * n + place) 0 → Column scratch place n values
-      → Column scratch place (n + 1) (set values n v)
-  column_more {n} {v} {values} l e h = record { long = length-set values n v ∙ h.long; at = λ i m. by i m (ℕ_discrete i n) } where
-    by : (i : ℕ) → i < n + 1 → Dec (i ≡ n) → get_or (set values n v) i 0 ≡ get_or scratch (4 * i + place) 0
-    by i m (yes q) = rw q (get_or-set_same values n v 0 (omega (arith, h.long)) ∙ e)
-    by i m (no q) = get_or-set_other values n i v 0 q ∙ h.at i (omega arith)
 
 -- The states between o and q: a row of the pairs, and a row of the pairs turned round.
 module _ (b : List ℕ) {back : List ℕ} (turned : HoldsExactly back (Turned b)) where

@@ -4,7 +4,7 @@
 // `read_back` reads triples back, and `plan_of` makes rows of digits of their numbers: a set of trimmed states or of trimmed marks is a word, since
 // there are at most 64.
 //
-// None of them is a call. They ask for what the trimmer knows: enough scratch; a checked table with its pairs and levels (`list_marks`); at most 64 rows
+// None of them is a call. They ask for what the trimmer knows: enough scratch; the pairs and levels of a checked table (`list_marks`); at most 64 rows
 // (`read_back`); numbers below 64 (`plan_of`); at most 1,024 rows, of 16-bit numbers (`append`).
 #![tactic(auto)]
 
@@ -13,17 +13,19 @@ ghost use Rattle.std.specs.Int.Bits.{bit_and};
 ghost use Rattle.vpa.specs.Lists.{each, below};
 ghost use Rattle.vpa.specs.PairsComputed.{pairs, levels};
 ghost use Rattle.vpa.specs.TrimComputed.{trim_marks};
-ghost use Rattle.table.specs.Layout.{move_bytes, parse};
-ghost use Rattle.table.specs.Refusals.{verdict};
+ghost use Rattle.table.specs.Layout.{move_bytes};
+ghost use Rattle.table.specs.Meaning.{meant};
 ghost use Rattle.relation.specs.Relations.{HoldsExactly};
 ghost use Rattle.nesting.specs.Calls.{rows};
 ghost use Rattle.nesting.specs.Scratch.{scratch_size};
 ghost use Rattle.triples.specs.Listing.{digits_of, rows_with, trio_rows, Laid, Appended};
 ghost use Rattle.triples.specs.Steps.{Column, state_rows, InBy, OutBy, marks_of, WaysOf, MoreWays, Gathers, Low, NumberAt, OnLevel, SameValues, Turning, Plans};
 
-use table::Table;
+use table::{Checked, Kind, Table};
 
 // Trimmed states (o, q, p) or trimmed marks (γ, o, q), by number.
+// It keeps a count and an array for each part, as `Ways` and `Plan` do: memory is fixed, and what `read_back`, `list_marks` and `plan_of` promise
+// (`Column`, `WaysOf`, `PlanOf`) speaks of each array by itself.
 #[derive(Clone, Copy)]
 pub struct Trios {
     pub count: usize,
@@ -70,22 +72,19 @@ pub fn read_back(scratch: &[u16], count: usize) -> Trios
     ensures { (result.count ≡ count) × (Column scratch.now 1 count result.first × (Column scratch.now 2 count result.second × Column scratch.now 3 count result.third)) }
 {
     Trios {
-        count: count,
-        first: column(scratch, 1, count),
-        second: column(scratch, 2, count),
-        third: column(scratch, 3, count),
+        count,
+        first: column(scratch, 1),
+        second: column(scratch, 2),
+        third: column(scratch, 3),
     }
 }
 
-fn column(scratch: &[u16], place: usize, count: usize) -> [usize; 64]
-    requires { (count ≤ 64) × ((place ≤ 3) × (scratch_size ≤ length scratch.now)) }
-    ensures { Column scratch.now place count result }
+// One number of each of the first 64 rows.
+fn column(scratch: &[u16], place: usize) -> [usize; 64]
+    requires { (place ≤ 3) × (scratch_size ≤ length scratch.now) }
+    ensures { Column scratch.now place 64 result }
 {
-    let mut r = [0usize; 64];
-    for i in 0..count {
-        r[i] = wide(scratch[4 * i + place]);
-    }
-    r
+    std::array::from_fn(|i| usize::from(scratch[4 * i + place]))
 }
 
 // Lists the trimmed states: by o, among equals by q, among those by p.
@@ -94,9 +93,9 @@ pub fn list_states(balanced: [u64; 64], live: [u64; 64], scratch: &mut [u16]) ->
     ensures { Appended 64 (state_rows balanced live) scratch.old 0 scratch.new result }
 {
     let back = relation::transposed(balanced);
-    let mut count: usize = 0;
-    for o in 0..64 {
-        count = list_states_from(scratch, count, o, balanced[o], &back, live[o]);
+    let mut count = 0;
+    for (o, &ends) in live.iter().enumerate() {
+        count = list_states_from(scratch, count, o, balanced[o], &back, ends);
     }
     count
 }
@@ -114,54 +113,50 @@ fn list_states_from(
     ensures { Appended 64 (each (λ q. rows_with 0 o q (digits_of (bit_and balanced (get_or back.now q 0)))) (digits_of live)) scratch.old count scratch.new result }
 {
     let mut total = count;
-    let mut rest = live;
-    while rest != 0 {
-        let q = u64::trailing_zeros(rest) as usize;
+    for q in relation::ones_of(live) {
         total = append(scratch, total, Table::STATES, 0, o, q, balanced & back[q]);
-        rest = rest & (rest - 1);
     }
     total
 }
 
 // Lists the trimmed marks: by γ, among equals by o, among those by q; and finds the ways of each.
 pub fn list_marks(
-    table: &[u8],
-    marks: usize,
+    table: &Checked,
     balanced: [u64; 64],
     live: [u64; 64],
     scratch: &mut [u16],
 ) -> Ways
-    requires table_value { (verdict table.now ≡ 0) × ((marks ≡ (parse table.now).mark_count) × (scratch_size ≤ length scratch.old)) }
-    requires balanced_value { (balanced ≡ rows (pairs (parse table.now))) × (live ≡ rows (levels (parse table.now))) }
-    ensures appended { Appended 64 (trio_rows (trim_marks (parse table.now))) scratch.old 0 scratch.new result.count }
-    ensures ways_of { result.count ≤ 64 → WaysOf (parse table.now) (trim_marks (parse table.now)) result }
+    requires scratch_bound { scratch_size ≤ length scratch.old }
+    requires balanced_value { (balanced ≡ rows (pairs (meant table.now))) × (live ≡ rows (levels (meant table.now))) }
+    ensures appended { Appended 64 (trio_rows (trim_marks (meant table.now))) scratch.old 0 scratch.new result.count }
+    ensures ways_of { result.count ≤ 64 → WaysOf (meant table.now) (trim_marks (meant table.now)) result }
 {
     let mut ways = Ways {
         count: 0,
-        opens: [0u64; 64],
-        closes: [0u64; 64],
+        opens: [0; 64],
+        closes: [0; 64],
     };
-    for mark in 0..marks {
-        let more = list_marks_of(table, mark, balanced, live, ways, scratch);
-        ways = more;
+    // A mark is its number; there is no list of marks to go over.
+    for mark in 0..table.counts.marks {
+        ways = list_marks_of(table, mark, balanced, live, ways, scratch);
     }
     ways
 }
 
 // Those of one mark, appended.
 fn list_marks_of(
-    table: &[u8],
+    table: &Checked,
     mark: usize,
     balanced: [u64; 64],
     live: [u64; 64],
     ways: Ways,
     scratch: &mut [u16],
 ) -> Ways
-    requires table_value { (verdict table.now ≡ 0) × ((mark < 64) × (scratch_size ≤ length scratch.old)) }
-    requires balanced_value { (balanced ≡ rows (pairs (parse table.now))) × (live ≡ rows (levels (parse table.now))) }
+    requires mark_bound { (mark < 64) × (scratch_size ≤ length scratch.old) }
+    requires balanced_value { (balanced ≡ rows (pairs (meant table.now))) × (live ≡ rows (levels (meant table.now))) }
     requires count_bound { ways.count ≤ 65 }
-    ensures appended { Appended 64 (trio_rows (marks_of (parse table.now) mark)) scratch.old ways.count scratch.new result.count }
-    ensures more_ways { result.count ≤ 64 → MoreWays (parse table.now) mark ways result }
+    ensures appended { Appended 64 (trio_rows (marks_of (meant table.now) mark)) scratch.old ways.count scratch.new result.count }
+    ensures more_ways { result.count ≤ 64 → MoreWays (meant table.now) mark ways result }
 {
     let inward = ways_in(table, mark, balanced);
     let outward = ways_out(table, mark, balanced);
@@ -174,8 +169,8 @@ fn list_marks_of(
     if Table::MARKS < total {
         return Ways {
             count: total,
-            opens: [0u64; 64],
-            closes: [0u64; 64],
+            opens: [0; 64],
+            closes: [0; 64],
         };
     }
     let opens = ways.opens;
@@ -195,19 +190,19 @@ fn list_marks_of(
 }
 
 // From the beginning of a level along the balanced pairs and over an open move with this mark.
-fn ways_in(table: &[u8], mark: usize, balanced: [u64; 64]) -> [u64; 64]
-    requires { (verdict table.now ≡ 0) × (balanced ≡ rows (pairs (parse table.now))) }
-    ensures { HoldsExactly result (InBy (parse table.now) mark) }
+fn ways_in(table: &Checked, mark: usize, balanced: [u64; 64]) -> [u64; 64]
+    requires { balanced ≡ rows (pairs (meant table.now)) }
+    ensures { HoldsExactly result (InBy (meant table.now) mark) }
 {
-    relation::join(balanced, nesting::moves_of(table, nesting::OPEN, mark))
+    relation::join(balanced, nesting::moves_of(table.bytes, Kind::Open, mark))
 }
 
 // Over a close move with this mark, and along the balanced pairs to the end of a level.
-fn ways_out(table: &[u8], mark: usize, balanced: [u64; 64]) -> [u64; 64]
-    requires { (verdict table.now ≡ 0) × (balanced ≡ rows (pairs (parse table.now))) }
-    ensures { HoldsExactly result (OutBy (parse table.now) mark) }
+fn ways_out(table: &Checked, mark: usize, balanced: [u64; 64]) -> [u64; 64]
+    requires { balanced ≡ rows (pairs (meant table.now)) }
+    ensures { HoldsExactly result (OutBy (meant table.now) mark) }
 {
-    relation::join(nesting::moves_of(table, nesting::CLOSE, mark), balanced)
+    relation::join(nesting::moves_of(table.bytes, Kind::Close, mark), balanced)
 }
 
 // Appends the mark with each level that opens one by it.
@@ -216,8 +211,8 @@ fn list_openers(scratch: &mut [u16], count: usize, mark: usize, opening: [u64; 6
     ensures { Appended 64 (each (λ o. rows_with 0 mark o (digits_of (get_or opening o 0))) (below 64)) scratch.old count scratch.new result }
 {
     let mut total = count;
-    for o in 0..64 {
-        total = append(scratch, total, Table::MARKS, 0, mark, o, opening[o]);
+    for (o, &ends) in opening.iter().enumerate() {
+        total = append(scratch, total, Table::MARKS, 0, mark, o, ends);
     }
     total
 }
@@ -235,15 +230,17 @@ fn gathered(
     requires by_index { (k : ℕ) → from ≤ k → k < to → get_or scratch.now (4 * k + place) 0 < 64 }
     ensures { Gathers old from to scratch.now place named result }
 {
-    let mut r = old;
-    for k in from..to {
-        r[k] = named[wide(scratch[4 * k + place])];
-    }
-    r
+    std::array::from_fn(|k| {
+        if from <= k && k < to {
+            named[usize::from(scratch[4 * k + place])]
+        } else {
+            old[k]
+        }
+    })
 }
 
 // Appends a row (x, y, z, k) for each digit k of last that is 1, if that makes no more than most rows, and answers how many there are then; one past
-// the most for more.
+// the most for more. x, y and z stay three numbers: what it promises speaks of each of them (`rows_with`).
 pub fn append(
     scratch: &mut [u16],
     count: usize,
@@ -257,7 +254,7 @@ pub fn append(
     requires x_bound { (x < 65536) × ((y < 65536) × (z < 65536)) }
     ensures { Appended most (rows_with x y z (digits_of last)) scratch.old count scratch.new result }
 {
-    let total = count + u64::count_ones(last) as usize;
+    let total = count + last.count_ones() as usize;
     if most < total {
         return most + 1;
     }
@@ -271,21 +268,11 @@ fn write_rows(scratch: &mut [u16], count: usize, x: usize, y: usize, z: usize, l
     ensures { Laid (4 * count) (move_bytes (rows_with x y z (digits_of last))) scratch.old scratch.new }
 {
     let mut at = 4 * count;
-    let mut rest = last;
-    while rest != 0 {
-        scratch[at] = x as u16;
-        scratch[at + 1] = y as u16;
-        scratch[at + 2] = z as u16;
-        scratch[at + 3] = u64::trailing_zeros(rest) as u16;
+    for k in relation::ones_of(last) {
+        let row = [x as u16, y as u16, z as u16, k as u16];
+        scratch[at..at + 4].copy_from_slice(&row);
         at += 4;
-        rest = rest & (rest - 1);
     }
-}
-
-fn wide(x: u16) -> usize
-    ensures { (x ≡ result) × (result < 65536) }
-{
-    x as usize
 }
 
 pub fn plan_of(states: Trios, marks: Trios, ways: Ways) -> Plan
@@ -293,44 +280,40 @@ pub fn plan_of(states: Trios, marks: Trios, ways: Ways) -> Plan
     requires low_2 { Low marks.count marks.second × Low marks.count marks.third }
     ensures { Plans states marks ways result }
 {
-    let n = states.count;
-    let first = states.first;
-    let second = states.second;
-    let state = states.third;
+    let Levels { level, outer } = levels_of(states, marks);
+    let Trios {
+        count,
+        first,
+        second,
+        third: state,
+    } = states;
     let mark = marks.first;
-    let opens = ways.opens;
-    let closes = ways.closes;
-    let levels = levels_of(first, second, n, marks);
-    let level = levels.level;
-    let outer = levels.outer;
-    let ends = turning(second, first, state, n);
-    let left = relation::join(opens, ends);
-    let starts = turning(first, second, state, n);
+    let ends = turning(second, first, state, count);
+    let left = relation::join(ways.opens, ends);
+    let starts = turning(first, second, state, count);
     Plan {
-        count: n,
-        state: state,
-        here: numbers_at(state, n),
-        level: level,
+        count,
+        state,
+        here: numbers_at(state, count),
+        level,
         pushes: relation::transposed(outer),
         pops: relation::transposed(left),
-        mark: mark,
-        entered: relation::join(closes, starts),
-        outer: outer,
+        mark,
+        entered: relation::join(ways.closes, starts),
+        outer,
     }
 }
 
-fn levels_of(first: [usize; 64], second: [usize; 64], n: usize, marks: Trios) -> Levels
-    requires { Low n first × (Low n second × (Low marks.count marks.second × Low marks.count marks.third)) }
-    ensures holds_exactly { HoldsExactly result.level (SameValues first second n first second n) }
-    ensures holds_exactly_2 { HoldsExactly result.outer (SameValues marks.second marks.third marks.count first second n) }
+fn levels_of(states: Trios, marks: Trios) -> Levels
+    requires { Low states.count states.first × (Low states.count states.second × (Low marks.count marks.second × Low marks.count marks.third)) }
+    ensures level { HoldsExactly result.level (SameValues states.first states.second states.count states.first states.second states.count) }
+    ensures outer { HoldsExactly result.outer (SameValues marks.second marks.third marks.count states.first states.second states.count) }
 {
-    let begun = numbers_at(first, n);
-    let ending = numbers_at(second, n);
-    let outer_first = marks.second;
-    let outer_second = marks.third;
+    let begun = numbers_at(states.first, states.count);
+    let ending = numbers_at(states.second, states.count);
     Levels {
-        level: on_levels(begun, ending, first, second, n),
-        outer: on_levels(begun, ending, outer_first, outer_second, marks.count),
+        level: on_levels(begun, ending, states.first, states.second, states.count),
+        outer: on_levels(begun, ending, marks.second, marks.third, marks.count),
     }
 }
 
@@ -339,15 +322,15 @@ fn numbers_at(values: [usize; 64], n: usize) -> [u64; 64]
     requires { Low n values }
     ensures { HoldsExactly result (NumberAt values n) }
 {
-    let mut r = [0u64; 64];
-    for j in 0..n {
-        let value = values[j];
-        r[value] = r[value] | (1u64 << j);
+    let mut r = [0; 64];
+    for (j, &value) in values[..n].iter().enumerate() {
+        r[value] |= 1u64 << j;
     }
     r
 }
 
-// For each number below n, those that begin and end as the two values of it say.
+// For each number below n, those that begin and end as the two values of it say. It is a loop, since the edit `closed_to_any_end` of `from_fn`, which was
+// proved too, met the prover's step limit in place of a refused fact.
 fn on_levels(
     begun: [u64; 64],
     ending: [u64; 64],
@@ -358,26 +341,23 @@ fn on_levels(
     requires { Low n first × Low n second }
     ensures { HoldsExactly result (OnLevel begun ending first second n) }
 {
-    let mut r = [0u64; 64];
-    for i in 0..n {
-        r[i] = begun[first[i]] & ending[second[i]];
+    let mut r = [0; 64];
+    for (i, &begins) in first[..n].iter().enumerate() {
+        r[i] = begun[begins] & ending[second[i]];
     }
     r
 }
 
+// As `numbers_at` of far, with a test for each number; the test as a closure would need clauses of its own, for one line less.
 // For each value of far, the numbers below n that have it and whose third value is the near one: they stand where their level begins, or where it ends.
 fn turning(near: [usize; 64], far: [usize; 64], third: [usize; 64], n: usize) -> [u64; 64]
     requires { Low n far }
     ensures { HoldsExactly result (Turning near far third n) }
 {
-    let mut r = [0u64; 64];
-    let mut j: usize = 0;
-    while j < n {
-        let i = j;
-        j += 1;
-        if third[i] == near[i] {
-            let value = far[i];
-            r[value] = r[value] | (1u64 << i);
+    let mut r = [0; 64];
+    for (j, &value) in far[..n].iter().enumerate() {
+        if third[j] == near[j] {
+            r[value] |= 1u64 << j;
         }
     }
     r

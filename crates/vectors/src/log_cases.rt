@@ -1,54 +1,51 @@
 // What the call of `whole_log` answers, and what became of the words: as they were, or those of a state cleared.
 use crate::lent::{OLD_WORD, STATE, UNTOUCHED, UNWRITTEN};
-use crate::tables::{EMPTY, ONE_STATE, TRIMMED, VERSION_PLACE, WORKED};
+use crate::tables::{EMPTY, EXAMPLES, ONE_STATE, TRIMMED, VERSION_PLACE, WORKED};
 use crate::{lent, lines, reader_cases, tables};
-use shortest::Shown;
 use std::io;
 
 #[inline(never)]
 pub fn run(rt: &impl Print) -> io::Result<()> {
-    examples(rt, b"worked table, whole log", &WORKED)?;
-    examples(rt, b"trimmed table, whole log", &TRIMMED)?;
+    examples(rt, "worked table, whole log", &WORKED)?;
+    examples(rt, "trimmed table, whole log", &TRIMMED)?;
     first_to_end_it(rt)?;
     long_logs(rt)?;
     sizes(rt)
 }
 
-// P4 to P9 of document 01.
-fn examples(rt: &impl Print, words: &[u8], table: &[u8]) -> io::Result<()> {
-    show(rt, words, table, &[1, 2])?;
-    show(rt, words, table, &[1, 0, 2])?;
-    show(rt, words, table, &[1, 3])?;
-    show(rt, words, table, &[2])?;
-    show(rt, words, table, &[])
+fn examples(rt: &impl Print, words: &str, table: &[u8]) -> io::Result<()> {
+    for log in EXAMPLES {
+        show(rt, words, table, log)?;
+    }
+    Ok(())
 }
 
 // The first Stop or refusal; begin comes before the first letter.
 fn first_to_end_it(rt: &impl Print) -> io::Result<()> {
-    show(rt, b"worked table, whole log", &WORKED, &[1, 4, 2])?;
-    show(rt, b"worked table, whole log", &WORKED, &[2, 4])?;
-    show(rt, b"no states, whole log", &EMPTY, &[])?;
-    show(rt, b"no states, whole log", &EMPTY, &[0])?;
-    show(rt, b"one state at both ends, whole log", &ONE_STATE, &[])
+    show(rt, "worked table, whole log", &WORKED, &[1, 4, 2])?;
+    show(rt, "worked table, whole log", &WORKED, &[2, 4])?;
+    show(rt, "no states, whole log", &EMPTY, &[])?;
+    show(rt, "no states, whole log", &EMPTY, &[0])?;
+    show(rt, "one state at both ends, whole log", &ONE_STATE, &[])
 }
 
 // An open at depth 32 is refused, when the last word of the state is in use; so is one in the log of 1022 levels.
 fn long_logs(rt: &impl Print) -> io::Result<()> {
-    show(rt, b"one state, whole log", &ONE_STATE, &[0; 32])?;
+    show(rt, "one state, whole log", &ONE_STATE, &[0; 32])?;
     show(
         rt,
-        b"last of each, whole log",
+        "last of each, whole log",
         tables::whole(&tables::last_of_each()),
         &[30; 33],
     )?;
     show_shortest(
         rt,
-        b"whole log of 4096 letters",
+        "whole log of 4096 letters",
         tables::whole(&tables::doubling(10, 4)),
     )?;
     show_shortest(
         rt,
-        b"whole log of 1022 levels",
+        "whole log of 1022 levels",
         tables::whole(&tables::deep()),
     )
 }
@@ -57,34 +54,34 @@ fn sizes(rt: &impl Print) -> io::Result<()> {
     let second = tables::worked_with(VERSION_PLACE, 2);
     show_lent(
         rt,
-        b"2150 words, whole log",
+        "2150 words, whole log",
         &WORKED,
         &[1, 2],
         &mut [OLD_WORD; 2150],
     )?;
     show_lent(
         rt,
-        b"2147 words, whole log",
+        "2147 words, whole log",
         &WORKED,
         &[1, 2],
         &mut [OLD_WORD; 2147],
     )?;
     show_lent(
         rt,
-        b"version 2 and 2147 words, whole log",
+        "version 2 and 2147 words, whole log",
         &second,
         &[1, 2],
         &mut [OLD_WORD; 2147],
     )
 }
 
-fn show(rt: &impl Print, words: &[u8], table: &[u8], log: &[u8]) -> io::Result<()> {
+fn show(rt: &impl Print, words: &str, table: &[u8], log: &[u8]) -> io::Result<()> {
     show_lent(rt, words, table, log, &mut [OLD_WORD; STATE])
 }
 
 fn show_lent(
     rt: &impl Print,
-    words: &[u8],
+    words: &str,
     table: &[u8],
     log: &[u8],
     state: &mut [u64],
@@ -94,14 +91,12 @@ fn show_lent(
 }
 
 // A shortest log of the table.
-fn show_shortest(rt: &impl Print, label: &[u8], table: &[u8]) -> io::Result<()> {
+fn show_shortest(rt: &impl Print, label: &str, table: &[u8]) -> io::Result<()> {
     let mut log = [UNWRITTEN; 4096];
     lines::label(rt, label)?;
     match shortest::shortest(table, &mut [UNTOUCHED; 16384], &mut log) {
-        Shown::Letters(count) => {
-            read(rt, table, lent::front(&log, count), &mut [OLD_WORD; STATE])
-        }
-        _ => lines::answer(rt, b"none"),
+        Ok(Some(count)) => read(rt, table, lent::front(&log, count), &mut [OLD_WORD; STATE]),
+        _ => lines::answer(rt, "none"),
     }
 }
 
@@ -112,12 +107,10 @@ fn read(rt: &impl Print, table: &[u8], log: &[u8], state: &mut [u64]) -> io::Res
 
 fn show_words(rt: &impl Print, before: &[u64], after: &[u64]) -> io::Result<()> {
     if lent::same(before, after, 0, after.len()) {
-        lines::answer(rt, b", as it was")
-    } else if lent::same(&[0u64; 0], after, 0, STATE)
-        & lent::same(before, after, STATE, after.len())
-    {
-        lines::answer(rt, b", 2148 words cleared")
+        lines::answer(rt, ", as it was")
+    } else if lent::same(&[], after, 0, STATE) && lent::same(before, after, STATE, after.len()) {
+        lines::answer(rt, ", 2148 words cleared")
     } else {
-        lines::answer(rt, b", other words")
+        lines::answer(rt, ", other words")
     }
 }

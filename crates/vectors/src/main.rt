@@ -1,4 +1,5 @@
 // Cases of what each library must answer, one line for each. The file `stdout` has the lines that must come.
+// The modules look alike where they show an answer, and each shows that of another call; what they share stands in `lent` and `lines`.
 #![tactic(auto)]
 
 mod balance_cases;

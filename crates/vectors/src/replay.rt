@@ -1,110 +1,93 @@
 // Follows a log through a table in which a state and a letter, with the mark on top where the letter closes, have one move at most. This is for logs too long
 // to be printed; it shares nothing with what found them but the table's own calls.
-use table::{Got, KindAt, Move};
+use table::{Kind, Move};
 
 // How many marks there is room for.
 const DEEPEST: usize = 4096;
 
-// No table has such a mark; it stands for any.
-const ANY: u8 = 255;
-
-// No table has such a state, and no move leads away from it.
-const NOWHERE: u8 = 255;
-
 // Where a run stands, and how many marks it has pushed and not popped.
-#[derive(Drop)]
+#[derive(Clone, Copy)]
 struct Place {
     state: u8,
     depth: usize,
 }
 
 pub fn is_accepted(table: &[u8], log: &[u8]) -> bool {
-    let part = table::moves(table);
-    let mut marks = [0u8; DEEPEST];
-    let mut place = at(initial(table), 0);
-    for i in 0..log.len() {
-        place = step(table, part, place, log[i], &mut marks);
+    match end(table, log) {
+        Some(place) => place.depth == 0 && table::is_final(table, usize::from(place.state)),
+        None => false,
     }
-    (place.depth == 0) & table::is_final(table, place.state as usize)
 }
 
-fn at(state: u8, depth: usize) -> Place {
-    Place {
-        state: state,
-        depth: depth,
+// Where the run ends, or None where there is none. The marks lie in a fixed array and their number beside them, since nothing here takes memory of its own.
+fn end(table: &[u8], log: &[u8]) -> Option<Place> {
+    let part = table::moves(table);
+    let mut marks = [0u8; DEEPEST];
+    let mut place = Place {
+        state: initial(table)?,
+        depth: 0,
+    };
+    for &letter in log {
+        place = step(table, part, place, letter, &mut marks)?;
     }
+    Some(place)
 }
 
 // The first initial state.
-fn initial(table: &[u8]) -> u8 {
-    for p in 0..64 {
-        if table::is_initial(table, p) {
-            return p as u8;
+fn initial(table: &[u8]) -> Option<u8> {
+    (0..64).find(|&p| table::is_initial(table, usize::from(p)))
+}
+
+fn step(
+    table: &[u8],
+    part: &[u8],
+    place: Place,
+    letter: u8,
+    marks: &mut [u8; DEEPEST],
+) -> Option<Place> {
+    match table::kind_at(table, usize::from(letter))? {
+        Kind::Plain => {
+            let found = find(part, place.state, letter, None)?;
+            Some(Place {
+                state: found.to,
+                depth: place.depth,
+            })
         }
-    }
-    NOWHERE
-}
-
-fn step(table: &[u8], part: &[u8], place: Place, letter: u8, marks: &mut [u8; DEEPEST]) -> Place {
-    match table::kind_at(table, letter as usize) {
-        KindAt::Plain => at(find(part, place.state, letter, ANY).to, place.depth),
-        KindAt::Open => push(find(part, place.state, letter, ANY), place.depth, marks),
-        KindAt::Close => pop(part, place, letter, marks),
-        KindAt::NoLetter => at(NOWHERE, 0),
+        Kind::Open => push(find(part, place.state, letter, None)?, place.depth, marks),
+        Kind::Close => pop(part, place, letter, marks),
     }
 }
 
-fn push(found: Move, depth: usize, marks: &mut [u8; DEEPEST]) -> Place {
-    if DEEPEST <= depth {
-        return at(NOWHERE, 0);
-    }
-    marks[depth] = found.mark;
-    at(found.to, depth + 1)
+fn push(found: Move, depth: usize, marks: &mut [u8; DEEPEST]) -> Option<Place> {
+    *marks.get_mut(depth)? = found.mark;
+    Some(Place {
+        state: found.to,
+        depth: depth + 1,
+    })
 }
 
-fn pop(part: &[u8], place: Place, letter: u8, marks: &[u8; DEEPEST]) -> Place {
-    if place.depth == 0 {
-        return at(NOWHERE, 0);
-    }
-    let depth = place.depth - 1;
-    if DEEPEST <= depth {
-        return at(NOWHERE, 0);
-    }
-    at(find(part, place.state, letter, marks[depth]).to, depth)
+fn pop(part: &[u8], place: Place, letter: u8, marks: &[u8; DEEPEST]) -> Option<Place> {
+    let depth = place.depth.checked_sub(1)?;
+    let mark = *marks.get(depth)?;
+    let found = find(part, place.state, letter, Some(mark))?;
+    Some(Place {
+        state: found.to,
+        depth,
+    })
 }
 
-// The move from a state by a letter, and with this mark; one that leads nowhere if there is none.
-fn find(part: &[u8], state: u8, letter: u8, mark: u8) -> Move {
-    let mut found = Move {
-        from: state,
-        letter: letter,
-        mark: 0,
-        to: NOWHERE,
-    };
-    for k in 0..part.len() / 4 {
-        found = found_at(part, k, mark, found);
-    }
-    found
-}
-
-// Move k if it has what is looked for, else what was found before.
-fn found_at(part: &[u8], k: usize, mark: u8, found: Move) -> Move {
-    match table::move_at(part, k) {
-        Got::Move(next) => {
-            if is_like(next, found) & is_with(next, mark) {
-                next
-            } else {
-                found
-            }
-        }
-        Got::NoMove => found,
-    }
-}
-
-fn is_like(next: Move, found: Move) -> bool {
-    (next.from == found.from) & (next.letter == found.letter)
-}
-
-fn is_with(next: Move, mark: u8) -> bool {
-    (mark == ANY) | (next.mark == mark)
+// The move from a state by a letter, and with this mark where one is given.
+fn find(part: &[u8], state: u8, letter: u8, mark: Option<u8>) -> Option<Move> {
+    part.as_chunks::<4>()
+        .0
+        .iter()
+        .map(|&[from, letter, mark, to]| Move {
+            from,
+            letter,
+            mark,
+            to,
+        })
+        .find(|next| {
+            next.from == state && next.letter == letter && mark.is_none_or(|m| m == next.mark)
+        })
 }

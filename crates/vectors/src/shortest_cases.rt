@@ -1,10 +1,11 @@
 // What the call of `shortest` answers: how many letters and which, or that there is no log, or the refusal; then what the rest of the output and the
 // scratch hold.
-use crate::lent::{CLEARED, UNTOUCHED, UNWRITTEN};
-use crate::tables::{FINAL_PLACE, INITIAL_PLACE, NESTED_TWICE, VERSION_PLACE, WORKED};
+use crate::lent::{UNTOUCHED, UNWRITTEN};
+use crate::lines::Numbers;
+use crate::tables::{EMPTY, FINAL_PLACE, INITIAL_PLACE, NESTED_TWICE, VERSION_PLACE, WORKED};
 use crate::{lent, lines, replay, tables};
-use shortest::Shown;
 use std::io;
+use table::Refusal;
 
 // A log with more letters is not written out, unless a case says otherwise.
 const SHORT: usize = 8;
@@ -33,21 +34,21 @@ pub fn run(rt: &impl Print) -> io::Result<()> {
 fn sizes_of_output(rt: &impl Print) -> io::Result<()> {
     show_lent(
         rt,
-        b"shortest of the worked table into 5 bytes",
+        "shortest of the worked table into 5 bytes",
         &WORKED,
         &mut [UNTOUCHED; 16385],
         &mut [UNWRITTEN; 5],
     )?;
     show_lent(
         rt,
-        b"shortest of the worked table into 2 bytes",
+        "shortest of the worked table into 2 bytes",
         &WORKED,
         &mut [UNTOUCHED; 16385],
         &mut [UNWRITTEN; 2],
     )?;
     show_lent(
         rt,
-        b"shortest of the worked table into 1 byte",
+        "shortest of the worked table into 1 byte",
         &WORKED,
         &mut [UNTOUCHED; 16385],
         &mut [UNWRITTEN; 1],
@@ -58,14 +59,14 @@ fn refusals(rt: &impl Print) -> io::Result<()> {
     let second = tables::worked_with(VERSION_PLACE, 2);
     show_lent(
         rt,
-        b"shortest of version 2 with 16383 numbers of scratch",
+        "shortest of version 2 with 16383 numbers of scratch",
         &second,
         &mut [UNTOUCHED; 16383],
         &mut [UNWRITTEN; 2],
     )?;
     show_lent(
         rt,
-        b"shortest with 16383 numbers of scratch",
+        "shortest with 16383 numbers of scratch",
         &WORKED,
         &mut [UNTOUCHED; 16383],
         &mut [UNWRITTEN; 1],
@@ -73,35 +74,35 @@ fn refusals(rt: &impl Print) -> io::Result<()> {
 }
 
 fn no_letters(rt: &impl Print) -> io::Result<()> {
-    show(rt, b"shortest of a state at both ends", &BOTH_ENDS)?;
+    show(rt, "shortest of a state at both ends", &BOTH_ENDS)?;
     show_into(
         rt,
-        b"shortest of a state at both ends into 0 bytes",
+        "shortest of a state at both ends into 0 bytes",
         &BOTH_ENDS,
         &mut [UNWRITTEN; 0],
     )
 }
 
 fn no_log(rt: &impl Print) -> io::Result<()> {
-    show(rt, b"shortest of no states", &[0, 6, 1, 0, 0, 0, 0, 0])?;
+    show(rt, "shortest of no states", &EMPTY)?;
     show(
         rt,
-        b"shortest of no initial state",
+        "shortest of no initial state",
         &tables::worked_with(INITIAL_PLACE, 0),
     )?;
     show(
         rt,
-        b"shortest of no final state",
+        "shortest of no final state",
         &tables::worked_with(FINAL_PLACE, 0),
     )?;
     show(
         rt,
-        b"shortest from the final to the initial state",
+        "shortest from the final to the initial state",
         &BACKWARD,
     )?;
     show_lent(
         rt,
-        b"shortest from the final to the initial state into 0 bytes",
+        "shortest from the final to the initial state into 0 bytes",
         &BACKWARD,
         &mut [UNTOUCHED; 16385],
         &mut [UNWRITTEN; 0],
@@ -109,14 +110,10 @@ fn no_log(rt: &impl Print) -> io::Result<()> {
 }
 
 fn levels(rt: &impl Print) -> io::Result<()> {
+    show(rt, "shortest of levels away from their ends", &NESTED_TWICE)?;
     show(
         rt,
-        b"shortest of levels away from their ends",
-        &NESTED_TWICE,
-    )?;
-    show(
-        rt,
-        b"shortest where the second open move leads nearer",
+        "shortest where the second open move leads nearer",
         tables::whole(&tables::second_open_nearer()),
     )
 }
@@ -126,19 +123,15 @@ fn nested_or_plain(rt: &impl Print) -> io::Result<()> {
     let nested = tables::plain_and_nested([1, 0, 0, 2], [2, 0, 0, 4], [3, 2, 0, 4]);
     show(
         rt,
-        b"shortest where nested is shorter",
+        "shortest where nested is shorter",
         tables::whole(&nested),
     )?;
     let plain = tables::plain_and_nested([1, 0, 0, 4], [2, 2, 0, 4], [3, 0, 0, 2]);
-    show(
-        rt,
-        b"shortest where nested is longer",
-        tables::whole(&plain),
-    )?;
+    show(rt, "shortest where nested is longer", tables::whole(&plain))?;
     let either = tables::plain_and_nested([1, 0, 0, 4], [2, 0, 0, 4], [3, 2, 0, 4]);
     show_up_to(
         rt,
-        b"shortest where nested is as long",
+        "shortest where nested is as long",
         tables::whole(&either),
         &mut [UNTOUCHED; 16384],
         &mut [UNWRITTEN; 4097],
@@ -148,17 +141,17 @@ fn nested_or_plain(rt: &impl Print) -> io::Result<()> {
 
 fn marks(rt: &impl Print) -> io::Result<()> {
     let apart = tables::of_open_and_close([0, 0, 0, 1], [1, 1, 1, 1]);
-    show(rt, b"shortest of open mark 0 and close mark 1", &apart)?;
+    show(rt, "shortest of open mark 0 and close mark 1", &apart)?;
     let same = tables::of_open_and_close([0, 0, 1, 1], [1, 1, 1, 1]);
-    show(rt, b"shortest of open mark 1 and close mark 1", &same)?;
+    show(rt, "shortest of open mark 1 and close mark 1", &same)?;
     show(
         rt,
-        b"shortest where another mark is popped sooner",
+        "shortest where another mark is popped sooner",
         tables::whole(&tables::other_mark_sooner()),
     )?;
     show(
         rt,
-        b"shortest where another mark is pushed first",
+        "shortest where another mark is pushed first",
         tables::whole(&tables::other_mark_first()),
     )
 }
@@ -170,7 +163,7 @@ fn several_ends(rt: &impl Print) -> io::Result<()> {
     table[71] = 2;
     show(
         rt,
-        b"shortest of a chain with several ends",
+        "shortest of a chain with several ends",
         tables::whole(&table),
     )
 }
@@ -178,12 +171,12 @@ fn several_ends(rt: &impl Print) -> io::Result<()> {
 fn long_logs(rt: &impl Print) -> io::Result<()> {
     show(
         rt,
-        b"shortest of a chain of 64 states",
+        "shortest of a chain of 64 states",
         tables::whole(&tables::chain()),
     )?;
     show(
         rt,
-        b"shortest of 1022 levels",
+        "shortest of 1022 levels",
         tables::whole(&tables::deep()),
     )
 }
@@ -193,13 +186,13 @@ fn most_letters(rt: &impl Print) -> io::Result<()> {
     let table = tables::doubling(10, 4);
     show_into(
         rt,
-        b"shortest of 4096 letters into 4096 bytes",
+        "shortest of 4096 letters into 4096 bytes",
         tables::whole(&table),
         &mut [UNWRITTEN; 4096],
     )?;
     show_into(
         rt,
-        b"shortest of 4096 letters into 4095 bytes",
+        "shortest of 4096 letters into 4095 bytes",
         tables::whole(&table),
         &mut [UNWRITTEN; 4095],
     )
@@ -208,32 +201,32 @@ fn most_letters(rt: &impl Print) -> io::Result<()> {
 // 4 (2^10 - 1) letters, and 5; then 4 (2^18 - 1), and 4.
 fn too_many_letters(rt: &impl Print) -> io::Result<()> {
     let table = tables::doubling(10, 5);
-    show(rt, b"shortest of 4097 letters", tables::whole(&table))?;
+    show(rt, "shortest of 4097 letters", tables::whole(&table))?;
     show_lent(
         rt,
-        b"shortest of 4097 letters into 0 bytes",
+        "shortest of 4097 letters into 0 bytes",
         tables::whole(&table),
         &mut [UNTOUCHED; 16385],
         &mut [UNWRITTEN; 0],
     )?;
     show(
         rt,
-        b"shortest of 1048576 letters",
+        "shortest of 1048576 letters",
         tables::whole(&tables::doubling(18, 4)),
     )
 }
 
-fn show(rt: &impl Print, label: &[u8], table: &[u8]) -> io::Result<()> {
+fn show(rt: &impl Print, label: &str, table: &[u8]) -> io::Result<()> {
     show_into(rt, label, table, &mut [UNWRITTEN; 4097])
 }
 
-fn show_into(rt: &impl Print, label: &[u8], table: &[u8], out: &mut [u8]) -> io::Result<()> {
+fn show_into(rt: &impl Print, label: &str, table: &[u8], out: &mut [u8]) -> io::Result<()> {
     show_lent(rt, label, table, &mut [UNTOUCHED; 16384], out)
 }
 
 fn show_lent(
     rt: &impl Print,
-    label: &[u8],
+    label: &str,
     table: &[u8],
     scratch: &mut [u16],
     out: &mut [u8],
@@ -244,7 +237,7 @@ fn show_lent(
 // A log with more than `most` letters is not written out, but replayed.
 fn show_up_to(
     rt: &impl Print,
-    label: &[u8],
+    label: &str,
     table: &[u8],
     scratch: &mut [u16],
     out: &mut [u8],
@@ -253,48 +246,39 @@ fn show_up_to(
     lines::label(rt, label)?;
     let answer = shortest::shortest(table, scratch, out);
     show_answer(rt, answer, table, out, most)?;
-    lent::show_scratch(rt, cleared(answer), scratch)
+    lent::show_scratch(rt, lent::cleared(&answer), scratch)
 }
 
 fn show_answer(
     rt: &impl Print,
-    answer: Shown,
+    answer: Result<Option<usize>, Refusal>,
     table: &[u8],
     out: &[u8],
     most: usize,
 ) -> io::Result<()> {
     match answer {
-        Shown::Refused(number) => {
-            lines::refused(rt, number)?;
-            lent::show_rest(rt, out, 0)
-        }
-        Shown::NoLog => {
-            lines::text(rt, b"no log")?;
-            lent::show_rest(rt, out, 0)
-        }
-        Shown::Letters(count) => {
+        Ok(Some(count)) => {
             show_log(rt, table, lent::front(out, count), most)?;
             lent::show_rest(rt, out, count)
+        }
+        Ok(None) => {
+            print!(rt; "no log")?;
+            lent::show_rest(rt, out, 0)
+        }
+        Err(refusal) => {
+            print!(rt; "{refusal}")?;
+            lent::show_rest(rt, out, 0)
         }
     }
 }
 
 fn show_log(rt: &impl Print, table: &[u8], log: &[u8], most: usize) -> io::Result<()> {
-    lines::number(rt, log.len())?;
-    lines::text(rt, b" letters")?;
+    print!(rt; "{} letters", log.len())?;
     if log.len() <= most {
-        lines::next_numbers(rt, log)
+        print!(rt; "{}", Numbers(log))
     } else if replay::is_accepted(table, log) {
-        lines::text(rt, b", accepted")
+        print!(rt; ", accepted")
     } else {
-        lines::text(rt, b", not accepted")
-    }
-}
-
-fn cleared(answer: Shown) -> usize {
-    match answer {
-        Shown::Refused(number) => lent::cleared_at(number),
-        Shown::NoLog => CLEARED,
-        Shown::Letters(_) => CLEARED,
+        print!(rt; ", not accepted")
     }
 }

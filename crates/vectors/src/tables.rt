@@ -48,6 +48,9 @@ pub const ONE_STATE: [u8; 34] = [
     0x01, 0x00,
 ];
 
+// The logs that document 01 reads by the worked table and by the trimmed one, P4 to P9.
+pub const EXAMPLES: [&[u8]; 5] = [&[1, 2], &[1, 0, 2], &[1, 3], &[2], &[]];
+
 // No states, letters, marks or moves.
 pub const EMPTY: [u8; 8] = [0, 6, 1, 0, 0, 0, 0, 0];
 
@@ -73,7 +76,7 @@ pub const LAST_STATE_PLACE: usize = 15;
 
 pub const MOVES_PLACE: usize = 16;
 
-// The bytes of a move.
+// Where the bytes of a move stand in it: numbers and no enum, since they are added to where the move stands.
 pub const FROM: u8 = 0;
 
 pub const LETTER: u8 = 1;
@@ -85,31 +88,32 @@ pub const TO: u8 = 3;
 // The worked table with another byte at one place.
 pub fn worked_with(place: usize, byte: u8) -> [u8; 36] {
     let mut table = WORKED;
-    if place < 36 {
-        table[place] = byte;
+    if let Some(changed) = table.get_mut(place) {
+        *changed = byte;
     }
     table
 }
 
 // The worked table with another byte in move k.
 pub fn changed(k: u8, field: u8, byte: u8) -> [u8; 36] {
-    worked_with(MOVES_PLACE + 4 * (k as usize) + field as usize, byte)
+    worked_with(MOVES_PLACE + 4 * usize::from(k) + usize::from(field), byte)
 }
 
 // The worked table with a byte after it, and L as given.
 pub fn longer_worked(l: u8) -> [u8; 37] {
     let mut table = [0u8; 37];
-    table::write(&WORKED, &mut table);
+    table[..WORKED.len()].copy_from_slice(&WORKED);
     table[1] = l;
     table
 }
 
 // Two states, two open letters, two marks, and these two moves.
 pub fn of_two_moves(first: [u8; 4], second: [u8; 4]) -> [u8; 20] {
-    [
-        0, 18, 1, 2, 2, 2, 0, 2, 1, 1, 0, 0, first[0], first[1], first[2], first[3], second[0],
-        second[1], second[2], second[3],
-    ]
+    let mut table = [0; 20];
+    table[..12].copy_from_slice(&[0, 18, 1, 2, 2, 2, 0, 2, 1, 1, 0, 0]);
+    table[12..16].copy_from_slice(&first);
+    table[16..].copy_from_slice(&second);
+    table
 }
 
 // State 0 is initial and state 1 final, letter 0 opens and letter 1 closes, and there are these two moves.
@@ -121,17 +125,12 @@ pub fn of_open_and_close(first: [u8; 4], second: [u8; 4]) -> [u8; 20] {
     table
 }
 
-// How many bytes the chain has: one letter, 64 states, 63 moves.
-pub const CHAIN_BYTES: usize = 325;
-
 // 64 states, the first initial and the last final, and a plain move from each to the next.
 pub fn chain() -> [u8; LARGEST_AND_ONE] {
     let mut table = of_counts(64, 1, 0, 63);
     table[9] = 1;
     table[72] = 2;
-    for k in 0..63 {
-        put_move(&mut table, 73 + 4 * k, 64 * k + k + 1);
-    }
+    put_each(&mut table, 63, |k| [low(k), 0, 0, low(k).wrapping_add(1)]);
     table
 }
 
@@ -141,14 +140,9 @@ pub fn ring() -> [u8; LARGEST_AND_ONE] {
     table[1] = 0x47;
     table[7] = 64;
     put(&mut table, 63, [63, 0, 0, 0]);
-    for state in 0..64 {
-        put_state(&mut table, 1, state, 3);
-    }
+    table[9..73].fill(3);
     table
 }
-
-// How many bytes the next table has: 32 letters, 64 states, 2 moves.
-pub const LAST_BYTES: usize = 112;
 
 // As many states, letters and marks as a table may have. State 63 opens itself and closes itself by mark 63.
 pub fn last_of_each() -> [u8; LARGEST_AND_ONE] {
@@ -156,8 +150,7 @@ pub fn last_of_each() -> [u8; LARGEST_AND_ONE] {
     table[38] = 1;
     table[39] = 2;
     table[103] = 3;
-    put(&mut table, 0, [63, 30, 63, 63]);
-    put(&mut table, 1, [63, 31, 63, 63]);
+    put_all(&mut table, &[[63, 30, 63, 63], [63, 31, 63, 63]]);
     table
 }
 
@@ -173,50 +166,23 @@ pub fn of_all_moves(
 ) -> [u8; LARGEST_AND_ONE] {
     let mut table = of_counts(states, letters, marks, moves);
     for k in 0..moves {
-        let place = length(states, letters, k) + 2;
-        put_one_of_all(
-            &mut table, place, k as usize, letters, marks, targets, others,
-        );
+        let (mark, to) = parts(k, targets);
+        let (letter, mark) = parts(mark, marks);
+        let (from, letter) = parts(letter, letters);
+        let from = low(from);
+        let place = 8 + usize::from(letters) + usize::from(from);
+        table[place] = if from == 0 { 3 } else { others };
+        put(&mut table, k, [from, letter, mark, to]);
     }
     table
 }
 
-fn put_one_of_all(
-    table: &mut [u8; LARGEST_AND_ONE],
-    place: usize,
-    k: usize,
-    letters: u8,
-    marks: u8,
-    targets: u8,
-    others: u8,
-) {
-    let mark = over(k, targets);
-    let letter = over(mark, marks);
-    let from = low(over(letter, letters));
-    put_state(table, letters, from, others);
-    put_at(
-        table,
-        place,
-        [
-            from,
-            left(letter, letters),
-            left(mark, marks),
-            left(k, targets),
-        ],
-    );
-}
-
-fn put_state(table: &mut [u8; LARGEST_AND_ONE], letters: u8, state: u8, others: u8) {
-    let place = 8 + letters as usize + state as usize;
-    table[place] = if state == 0 { 3 } else { others };
-}
-
-fn over(n: usize, by: u8) -> usize {
-    if by == 0 { 0 } else { n / by as usize }
-}
-
-fn left(n: usize, by: u8) -> u8 {
-    if by == 0 { 0 } else { low(n % by as usize) }
+// A number in parts of so many: how many are full, and what is left.
+fn parts(n: u16, by: u8) -> (u16, u8) {
+    let by = u16::from(by);
+    let full = n.checked_div(by).unwrap_or(0);
+    let left = n.checked_rem(by).unwrap_or(0);
+    (full, low(left))
 }
 
 // Letter 0 is plain, letter 1 opens and letter 2 closes. State `first` is initial and the last one final. The moves are still to be put.
@@ -224,29 +190,28 @@ fn of_three_letters(states: u8, marks: u8, moves: u16, first: u8) -> [u8; LARGES
     let mut table = of_counts(states, 3, marks, moves);
     table[9] = 1;
     table[10] = 2;
-    table[11 + first as usize] = 1;
-    table[10 + states as usize] = 2;
+    table[11 + usize::from(first)] = 1;
+    table[10 + usize::from(states)] = 2;
     table
 }
 
 // From 0 to 4 lead a plain way by 1 and a nested one by 3, as these moves have it; state 2 is for the longer one.
 pub fn plain_and_nested(third: [u8; 4], fourth: [u8; 4], fifth: [u8; 4]) -> [u8; LARGEST_AND_ONE] {
     let mut table = of_three_letters(5, 1, 5, 0);
-    put(&mut table, 0, [0, 0, 0, 1]);
-    put(&mut table, 1, [0, 1, 0, 3]);
-    put(&mut table, 2, third);
-    put(&mut table, 3, fourth);
-    put(&mut table, 4, fifth);
+    put_all(
+        &mut table,
+        &[[0, 0, 0, 1], [0, 1, 0, 3], third, fourth, fifth],
+    );
     table
 }
 
 // Mark 0 is pushed. It is popped after a plain move, and before that mark 1 could be.
 pub fn other_mark_sooner() -> [u8; LARGEST_AND_ONE] {
     let mut table = of_three_letters(4, 2, 4, 0);
-    put(&mut table, 0, [0, 1, 0, 1]);
-    put(&mut table, 1, [1, 0, 0, 2]);
-    put(&mut table, 2, [1, 2, 1, 3]);
-    put(&mut table, 3, [2, 2, 0, 3]);
+    put_all(
+        &mut table,
+        &[[0, 1, 0, 1], [1, 0, 0, 2], [1, 2, 1, 3], [2, 2, 0, 3]],
+    );
     table
 }
 
@@ -254,9 +219,7 @@ pub fn other_mark_sooner() -> [u8; LARGEST_AND_ONE] {
 pub fn other_mark_first() -> [u8; LARGEST_AND_ONE] {
     let mut table = of_three_letters(3, 2, 3, 0);
     table[KINDS_PLACE] = 1;
-    put(&mut table, 0, [0, 0, 0, 1]);
-    put(&mut table, 1, [0, 1, 1, 1]);
-    put(&mut table, 2, [1, 2, 1, 2]);
+    put_all(&mut table, &[[0, 0, 0, 1], [0, 1, 1, 1], [1, 2, 1, 2]]);
     table
 }
 
@@ -266,34 +229,38 @@ pub fn second_open_nearer() -> [u8; LARGEST_AND_ONE] {
     let mut table = of_three_letters(5, 1, 7, 0);
     table[KINDS_PLACE] = 1;
     table[KINDS_PLACE + 1] = 0;
-    put(&mut table, 0, [0, 0, 0, 1]);
-    put(&mut table, 1, [0, 0, 0, 2]);
-    put(&mut table, 2, [1, 1, 0, 2]);
-    put(&mut table, 3, [2, 0, 0, 3]);
-    put(&mut table, 4, [2, 1, 0, 3]);
-    put(&mut table, 5, [2, 1, 0, 4]);
-    put(&mut table, 6, [3, 2, 0, 4]);
+    put_all(
+        &mut table,
+        &[
+            [0, 0, 0, 1],
+            [0, 0, 0, 2],
+            [1, 1, 0, 2],
+            [2, 0, 0, 3],
+            [2, 1, 0, 3],
+            [2, 1, 0, 4],
+            [3, 2, 0, 4],
+        ],
+    );
     table
 }
 
 // Level 0 is state 0. Level k + 1 leads from 3k + 1 by 3k + 2 to 3k + 3, and each half of it opens level k by a mark of its own and closes it. So the only way
 // through level k has 4 (2^k - 1) letters. After the last level come the plain moves.
 pub fn doubling(levels: u8, plain: u8) -> [u8; LARGEST_AND_ONE] {
-    let moves = 4 * (levels as u16) + plain as u16;
-    let states = low(3 * (levels as usize) + plain as usize + 1);
-    let mut table = of_three_letters(states, low(2 * (levels as usize)), moves, begin(levels));
-    for j in 0..moves {
-        put(&mut table, j, of_doubling(j, levels));
-    }
+    let moves = 4 * u16::from(levels) + u16::from(plain);
+    let states = low(3 * u16::from(levels) + u16::from(plain) + 1);
+    let mut table = of_three_letters(states, low(2 * u16::from(levels)), moves, begin(levels));
+    put_each(&mut table, moves, |j| of_doubling(j, levels));
     table
 }
 
 // Move number j.
 fn of_doubling(j: u16, levels: u8) -> [u8; 4] {
-    let k = j as usize / 4;
-    if levels as usize <= k {
-        let from = j as usize - levels as usize;
-        return [low(from), 0, 0, low(from + 1)];
+    let k = j / 4;
+    let levels = u16::from(levels);
+    if levels <= k {
+        let from = low(j - levels);
+        return [from, 0, 0, from.wrapping_add(1)];
     }
     let inner = begin(low(k));
     match j % 4 {
@@ -309,7 +276,7 @@ fn begin(level: u8) -> u8 {
     if level == 0 {
         0
     } else {
-        low(3 * (level as usize) - 2)
+        low(3 * u16::from(level) - 2)
     }
 }
 
@@ -317,9 +284,7 @@ fn begin(level: u8) -> u8 {
 // 98, .. closes. The first number that is both is 1022.
 pub fn deep() -> [u8; LARGEST_AND_ONE] {
     let mut table = of_three_letters(64, 1, 65, 0);
-    for k in 0..65 {
-        put(&mut table, k, of_deep(low(k as usize)));
-    }
+    put_each(&mut table, 65, |k| of_deep(low(k)));
     table
 }
 
@@ -340,62 +305,61 @@ fn of_deep(k: u8) -> [u8; 4] {
 
 // As many bytes as L says.
 pub fn whole(table: &[u8; LARGEST_AND_ONE]) -> &[u8] {
-    lent::front(table, size(table[0], table[1]))
-}
-
-fn size(high: u8, low: u8) -> usize {
-    256 * (high as usize) + low as usize + 2
+    let l = u16::from_be_bytes([table[0], table[1]]);
+    lent::front(table, usize::from(l) + 2)
 }
 
 // The number of bytes after L.
 pub fn length(states: u8, letters: u8, moves: u16) -> usize
     ensures { result < 1000000 }
 {
-    6 + states as usize + letters as usize + 4 * (moves as usize)
+    6 + usize::from(states) + usize::from(letters) + 4 * usize::from(moves)
 }
 
 // Every letter plain, no state initial or final, and the moves rise; L follows from the counts.
 pub fn of_counts(states: u8, letters: u8, marks: u8, moves: u16) -> [u8; LARGEST_AND_ONE] {
     let mut table = [0u8; LARGEST_AND_ONE];
     let l = length(states, letters, moves);
-    table[0] = low(l / 256);
-    table[1] = low(l);
-    table[2] = 1;
-    table[3] = states;
-    table[4] = letters;
-    table[5] = marks;
-    table[6] = low(moves as usize / 256);
-    table[7] = low(moves as usize);
-    put_moves(&mut table, states, letters, moves);
+    let [moves_high, moves_low] = moves.to_be_bytes();
+    table[..8].copy_from_slice(&[
+        (l / 256 % 256) as u8,
+        (l % 256) as u8,
+        1,
+        states,
+        letters,
+        marks,
+        moves_high,
+        moves_low,
+    ]);
+    // Move k goes from k / 64 to k % 64 by letter 0.
+    put_each(&mut table, moves, |k| [low(k / 64), 0, 0, low(k % 64)]);
     table
 }
 
-fn put_moves(table: &mut [u8; LARGEST_AND_ONE], states: u8, letters: u8, moves: u16) {
+// Puts so many moves into a table that has its counts, each by its number.
+fn put_each<F: Fn(u16) -> [u8; 4]>(table: &mut [u8; LARGEST_AND_ONE], moves: u16, of: F)
+    requires { F.IsAlwaysCallable of }
+{
     for k in 0..moves {
-        put_move(table, length(states, letters, k) + 2, k as usize);
+        put(table, k, of(k));
     }
 }
 
-// Move k goes from k / 64 to k % 64 by letter 0.
-fn put_move(table: &mut [u8; LARGEST_AND_ONE], place: usize, k: usize) {
-    put_at(table, place, [low(k / 64), 0, 0, low(k % 64)]);
+// Puts moves into a table that has its counts, the first of them as move 0.
+fn put_all(table: &mut [u8; LARGEST_AND_ONE], moves: &[[u8; 4]]) {
+    for (k, &bytes) in (0u16..).zip(moves) {
+        put(table, k, bytes);
+    }
 }
 
-// Puts move k into a table that has its counts.
+// Puts move k into a table that has its counts, if there is room for it.
 fn put(table: &mut [u8; LARGEST_AND_ONE], k: u16, bytes: [u8; 4]) {
     let place = length(table[STATES_PLACE], table[LETTERS_PLACE], k) + 2;
-    put_at(table, place, bytes);
-}
-
-fn put_at(table: &mut [u8; LARGEST_AND_ONE], place: usize, bytes: [u8; 4]) {
-    if place < LARGEST_AND_ONE - 3 {
-        table[place] = bytes[0];
-        table[place + 1] = bytes[1];
-        table[place + 2] = bytes[2];
-        table[place + 3] = bytes[3];
+    if let Some(there) = table.get_mut(place..place + 4) {
+        there.copy_from_slice(&bytes);
     }
 }
 
-fn low(n: usize) -> u8 {
+fn low(n: u16) -> u8 {
     (n % 256) as u8
 }

@@ -1,12 +1,12 @@
 // What the call of `trim` answers: the trimmed table or the refusal, then what the rest of the output and the scratch hold.
-use crate::lent::{CLEARED, UNTOUCHED, UNWRITTEN};
+use crate::lent::{UNTOUCHED, UNWRITTEN};
+use crate::lines::Hex;
 use crate::tables::{
-    FINAL_PLACE, LAST_BYTES, NESTED_TWICE, TO, TWO_ENDS, TWO_MARKS, UNUSED_LETTER, VERSION_PLACE,
-    WORKED,
+    EMPTY, FINAL_PLACE, NESTED_TWICE, TO, TWO_ENDS, TWO_MARKS, UNUSED_LETTER, VERSION_PLACE, WORKED,
 };
 use crate::{lent, lines, table_cases, tables};
 use std::io;
-use trim::Trimmed;
+use table::Refusal;
 
 // A table with more bytes is not written out.
 const SHORT: usize = 80;
@@ -27,14 +27,14 @@ pub fn run(rt: &impl Print) -> io::Result<()> {
 fn sizes_of_output(rt: &impl Print) -> io::Result<()> {
     show_lent(
         rt,
-        b"trim of the worked table into 27 bytes",
+        "trim of the worked table into 27 bytes",
         &WORKED,
         &mut [UNTOUCHED; 16385],
         &mut [UNWRITTEN; 27],
     )?;
     show_lent(
         rt,
-        b"trim of the worked table into 26 bytes",
+        "trim of the worked table into 26 bytes",
         &WORKED,
         &mut [UNTOUCHED; 16385],
         &mut [UNWRITTEN; 26],
@@ -45,14 +45,14 @@ fn refusals(rt: &impl Print) -> io::Result<()> {
     let second = tables::worked_with(VERSION_PLACE, 2);
     show_lent(
         rt,
-        b"trim of version 2 with 16383 numbers of scratch",
+        "trim of version 2 with 16383 numbers of scratch",
         &second,
         &mut [UNTOUCHED; 16383],
         &mut [UNWRITTEN; 27],
     )?;
     show_lent(
         rt,
-        b"trim with 16383 numbers of scratch",
+        "trim with 16383 numbers of scratch",
         &WORKED,
         &mut [UNTOUCHED; 16383],
         &mut [UNWRITTEN; 26],
@@ -60,34 +60,30 @@ fn refusals(rt: &impl Print) -> io::Result<()> {
 }
 
 fn whole_tables(rt: &impl Print) -> io::Result<()> {
-    show(rt, b"trim of the worked table", &WORKED)?;
-    show(rt, b"trim by two marks between the same levels", &TWO_MARKS)?;
-    show(rt, b"trim of levels away from their ends", &NESTED_TWICE)?;
-    show(rt, b"trim of levels with a common end", &TWO_ENDS)?;
-    show(rt, b"trim with a letter that no move has", &UNUSED_LETTER)
+    show(rt, "trim of the worked table", &WORKED)?;
+    show(rt, "trim by two marks between the same levels", &TWO_MARKS)?;
+    show(rt, "trim of levels away from their ends", &NESTED_TWICE)?;
+    show(rt, "trim of levels with a common end", &TWO_ENDS)?;
+    show(rt, "trim with a letter that no move has", &UNUSED_LETTER)
 }
 
 // State 3 has a way to the end of the level (0,2) and none from its start, and a way from the start of the level (1,1) and none to its end.
 fn aside(rt: &impl Print) -> io::Result<()> {
     let mut table = tables::changed(4, TO, 2);
     table[27] = 3;
-    show(rt, b"trim with a state aside of both levels", &table)
+    show(rt, "trim with a state aside of both levels", &table)
 }
 
 fn last_of_each(rt: &impl Print) -> io::Result<()> {
     let table = tables::last_of_each();
-    show(
-        rt,
-        b"trim of the last state and mark",
-        &table[0..LAST_BYTES],
-    )
+    show(rt, "trim of the last state and mark", tables::whole(&table))
 }
 
 fn nothing_accepted(rt: &impl Print) -> io::Result<()> {
-    show(rt, b"trim of no states", &[0, 6, 1, 0, 0, 0, 0, 0])?;
+    show(rt, "trim of no states", &EMPTY)?;
     show(
         rt,
-        b"trim of no final state",
+        "trim of no final state",
         &tables::worked_with(FINAL_PLACE, 0),
     )
 }
@@ -95,10 +91,10 @@ fn nothing_accepted(rt: &impl Print) -> io::Result<()> {
 // Each state is initial and final and has a move to each: n states make n^3 trimmed states, and a move n^2 trimmed moves.
 // Where the first alone is initial, they make n^2 trimmed states, and a move n trimmed moves.
 fn plain_moves(rt: &impl Print) -> io::Result<()> {
-    show_plain(rt, b"trim of four states alike", 4, 1, 16, 3)?;
-    show_plain(rt, b"trim of five states alike", 5, 1, 25, 3)?;
-    show_plain(rt, b"trim to 1024 moves", 4, 4, 64, 3)?;
-    show_plain(rt, b"trim to 1025 moves", 5, 9, 205, 2)
+    show_plain(rt, "trim of four states alike", 4, 1, 16, 3)?;
+    show_plain(rt, "trim of five states alike", 5, 1, 25, 3)?;
+    show_plain(rt, "trim to 1024 moves", 4, 4, 64, 3)?;
+    show_plain(rt, "trim to 1025 moves", 5, 9, 205, 2)
 }
 
 // Four states alike, and one with no move.
@@ -107,7 +103,7 @@ fn one_state_more(rt: &impl Print) -> io::Result<()> {
     table[13] = 3;
     show_lent(
         rt,
-        b"trim to 65 states into 0 bytes",
+        "trim to 65 states into 0 bytes",
         lent::front(&table, 78),
         &mut [UNTOUCHED; 16385],
         &mut [UNWRITTEN; 0],
@@ -116,13 +112,13 @@ fn one_state_more(rt: &impl Print) -> io::Result<()> {
 
 // Each mark is pushed on the way from any state to state 0, and popped there.
 fn marks(rt: &impl Print) -> io::Result<()> {
-    show_marks(rt, b"trim to 64 marks", 4, 16, 128)?;
-    show_marks(rt, b"trim to 65 marks", 5, 13, 130)
+    show_marks(rt, "trim to 64 marks", 4, 16, 128)?;
+    show_marks(rt, "trim to 65 marks", 5, 13, 130)
 }
 
 fn show_plain(
     rt: &impl Print,
-    label: &[u8],
+    label: &str,
     states: u8,
     letters: u8,
     moves: u16,
@@ -133,7 +129,7 @@ fn show_plain(
     show(rt, label, lent::front(&table, size))
 }
 
-fn show_marks(rt: &impl Print, label: &[u8], states: u8, marks: u8, moves: u16) -> io::Result<()> {
+fn show_marks(rt: &impl Print, label: &str, states: u8, marks: u8, moves: u16) -> io::Result<()> {
     let mut table = tables::of_all_moves(states, 2, marks, 1, moves, 3);
     table[8] = 1;
     table[9] = 2;
@@ -141,7 +137,7 @@ fn show_marks(rt: &impl Print, label: &[u8], states: u8, marks: u8, moves: u16) 
     show(rt, label, lent::front(&table, size))
 }
 
-fn show(rt: &impl Print, label: &[u8], table: &[u8]) -> io::Result<()> {
+fn show(rt: &impl Print, label: &str, table: &[u8]) -> io::Result<()> {
     show_lent(
         rt,
         label,
@@ -153,7 +149,7 @@ fn show(rt: &impl Print, label: &[u8], table: &[u8]) -> io::Result<()> {
 
 fn show_lent(
     rt: &impl Print,
-    label: &[u8],
+    label: &str,
     table: &[u8],
     scratch: &mut [u16],
     out: &mut [u8],
@@ -161,51 +157,36 @@ fn show_lent(
     lines::label(rt, label)?;
     let answer = trim::trim(table, scratch, out);
     show_answer(rt, answer, out)?;
-    lent::show_scratch(rt, cleared(answer), scratch)
+    lent::show_scratch(rt, lent::cleared(&answer), scratch)
 }
 
-fn show_answer(rt: &impl Print, answer: Trimmed, out: &[u8]) -> io::Result<()> {
+fn show_answer(rt: &impl Print, answer: Result<usize, Refusal>, out: &[u8]) -> io::Result<()> {
     match answer {
-        Trimmed::Refused(number) => {
-            lines::refused(rt, number)?;
-            lent::show_rest(rt, out, 0)
-        }
-        Trimmed::Bytes(bytes) => {
+        Ok(bytes) => {
             show_trimmed(rt, lent::front(out, bytes))?;
             lent::show_rest(rt, out, bytes)
+        }
+        Err(refusal) => {
+            print!(rt; "{refusal}")?;
+            lent::show_rest(rt, out, 0)
         }
     }
 }
 
 fn show_trimmed(rt: &impl Print, bytes: &[u8]) -> io::Result<()> {
-    lines::number(rt, bytes.len())?;
-    if bytes.len() <= SHORT {
-        lines::text(rt, b" bytes ")?;
-        lines::hex(rt, bytes)
+    let size = bytes.len();
+    if size <= SHORT {
+        print!(rt; "{size} bytes {}", Hex(bytes))
     } else {
-        lines::text(rt, b" bytes, ")?;
+        print!(rt; "{size} bytes, ")?;
         table_cases::show_checked(rt, bytes)?;
-        lines::text(rt, b", sum")?;
-        lines::next_number(rt, checksum(bytes))
+        print!(rt; ", sum {}", checksum(bytes))
     }
 }
 
 // Differs where a single byte differs, or where two that are near each other are exchanged.
 fn checksum(bytes: &[u8]) -> usize {
-    let mut total: usize = 0;
-    for i in 0..bytes.len() {
-        total = with_byte(total, bytes[i]);
-    }
-    total
-}
-
-fn with_byte(total: usize, byte: u8) -> usize {
-    total % 65521 * 256 + byte as usize
-}
-
-fn cleared(answer: Trimmed) -> usize {
-    match answer {
-        Trimmed::Refused(number) => lent::cleared_at(number),
-        Trimmed::Bytes(_) => CLEARED,
-    }
+    bytes.iter().fold(0, |total, &byte| {
+        total % 65521 * 256 + usize::from(byte)
+    })
 }

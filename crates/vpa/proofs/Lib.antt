@@ -17,3 +17,4 @@ pub mod Lengths
 pub mod Each
 pub mod ShortestLogs
 pub mod Balances
+pub mod FromFn

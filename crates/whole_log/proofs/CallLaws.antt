@@ -15,6 +15,8 @@ use Rattle.vpa.specs.TableOnDisk.{Table, letter_count, automaton, IsTable}
 use Rattle.vpa.proofs.TableReader.{accepted_iff_accepts}
 use Rattle.vpa.proofs.ReaderStates.{finish_stopped, letters_stopped, taken_most}
 use Rattle.vpa.proofs.TableMoves.{accepted_letters}
+use Rattle.std.specs.Prelude.{Result}
+use Rattle.table.specs.declared.refusal.Refusal.{Refusal}
 use Rattle.table.specs.Answers.{refused, answered}
 use Rattle.table.specs.Bytes.{AreBytes}
 use Rattle.table.specs.Layout.{parse}
@@ -186,6 +188,6 @@ log_accepted s log words e = by (log_does s log words) where
   by (log_answers z l g d) = (log_accepted_iff s log words z l g (λ f. let o : ◌≡◌ {A = ℕ} 0 1 = cc in omega arith)).0 e
 
 -- Two outcomes are one.
-pub log_once : (s log words : List ℕ) (r q : Heard) (a b : List ℕ) → heard_as r ≡ (log_call s log words).answer → heard_as q ≡ (log_call s log words).answer
+pub log_once : (s log words : List ℕ) (r q : Result Heard Refusal) (a b : List ℕ) → heard_as r ≡ (log_call s log words).answer → heard_as q ≡ (log_call s log words).answer
     → a ≡ (log_call s log words).words → b ≡ (log_call s log words).words → (r ≡ q) × (a ≡ b)
 log_once s log words r q a b e d f g = (heard_once r q e d, f ∙ sym g)

@@ -145,15 +145,12 @@ module _ (s : List ℕ) (good : verdict s ≡ 0) where
     }
 
   -- A letter: it is refused, or the state after it stands in the words, which runs on or is stopped.
-  module _ {log before words : List ℕ} {i : ℕ} {head : Head} (h : ReadTo s log before i head words) (l : i < length log) where
-    abbrev letter : ℕ
-    letter = get_or log i 0
-
+  module _ {log before words : List ℕ} {i letter : ℕ} {head : Head} (h : ReadTo s log before i head words) (l : i < length log) (is : letter ≡ get_or log i 0) where
     one : i + 1 ≡ suc i
     one = omega arith
 
     next_letter : followed s (letter ∷ drop (i + 1) log) (after (state_with head words) before) ≡ log_answer s log before
-    next_letter = ap (λ log. followed s log (after (state_with head words) before)) (rw one (sym (drop-cons log i 0 l))) ∙ h.answers
+    next_letter = ap (λ log. followed s log (after (state_with head words) before)) (rw (one, is) (sym (drop-cons log i 0 l))) ∙ h.answers
 
     runs : (state_with head words).stopped ≡ false
     unfolding state_with

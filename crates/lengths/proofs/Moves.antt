@@ -1,0 +1,34 @@
+-- Moves read four bytes at a time.
+use Prim.Native.Nat.{ℕ, ◌+◌, ◌*◌, ◌/◌, ◌<◌}
+use mathlib.Core.List.{List, []}
+use mathlib.Core.Path.{◌≡◌, refl, ◌∙◌, subst}
+use native.Mathlib.Omega.{arith}
+use native.Mathlib.Nat.{add-zero}
+use lib.ListN.{length, get_or}
+use Rattle.std.specs.Simd.{first_chunks}
+use Rattle.table.specs.Bytes.{byte}
+use Rattle.table.proofs.Quads.{quad_byte}
+
+-- The bytes of move i of u.
+pub record MoveBytes (u : List ℕ) (i : ℕ) (four : List ℕ) : Type 0 where
+  pub low : i < length u / 4
+  pub from : get_or four 0 0 ≡ byte u (4 * i)
+  pub letter : get_or four 1 0 ≡ byte u (4 * i + 1)
+  pub mark : get_or four 2 0 ≡ byte u (4 * i + 2)
+  pub to : get_or four 3 0 ≡ byte u (4 * i + 3)
+
+-- The fours of part, whose bytes are u, hold its moves.
+pub move_bytes : {part u : List ℕ} → part ≡ u → {fours : List (List ℕ)} → fours ≡ first_chunks 4 (length part / 4) part → length fours ≡ length part / 4
+    → (i : ℕ) → i < length fours → MoveBytes u i (get_or fours i [])
+move_bytes {part} p {fours} e k i l = subst (λ u. MoveBytes u i (get_or fours i [])) p (rw e (record {
+  low = low;
+  from = at 0 (omega arith) ∙ rw (add-zero (4 * i)) refl;
+  letter = at 1 (omega arith);
+  mark = at 2 (omega arith);
+  to = at 3 (omega arith);
+})) where
+  low : i < length part / 4
+  low = omega arith
+
+  at : (j : ℕ) → j < 4 → get_or (get_or (first_chunks 4 (length part / 4) part) i []) j 0 ≡ byte part (4 * i + j)
+  at j m = quad_byte part i j [] low m

@@ -1,0 +1,7 @@
+use Rattle.lengths.proofs.Chains.{moves_most, chained_forward}
+use Rattle.pair_sets.proofs.Moves.leaving.Goals as goal
+
+pub new-requires : goal.new-requires
+new-requires c =
+    let e = c.moves.ensures in
+    (c.requires, (moves_most _ c.args.self.table.now.good e, rw e (chained_forward c.args.self.chained)))
