@@ -7,14 +7,14 @@ ghost use Rattle.std.specs.Prelude.{ℕ, ◌<◌, ◌≤◌, pos, ◌+ℤ◌, le
 ghost use Rattle.std.specs.Int.{w32};
 ghost use Rattle.std.proofs.Common.{SFits};
 ghost use Rattle.vpa.specs.Balance.{change, lesser};
-ghost use Rattle.vpa.specs.TableOnDisk.{letter_count, kind_in};
+ghost use Rattle.vpa.specs.TableOnDisk.{kind_in};
 ghost use Rattle.table.specs.Layout.{most_letters, parse};
 ghost use Rattle.table.specs.Logs.{longest_log};
-ghost use Rattle.table.specs.Refusals.{verdict};
+ghost use Rattle.table.specs.Meaning.{meant};
 ghost use Rattle.balance.specs.Answers.{weighed_as};
 ghost use Rattle.balance.specs.Calls.{letters_weighed, balance_call};
 
-use table::{Kind, Refusal, Table};
+use table::{Checked, Kind, Refusal, Table};
 
 // The balance of the letters so far, and the lowest of all prefixes.
 #[derive(Clone, Copy)]
@@ -42,20 +42,21 @@ impl Tally {
 pub fn balance(table: &[u8], log: &[u8]) -> Result<Tally, Refusal>
     ensures { weighed_as result ≡ balance_call table.now log.now }
 {
-    let counts = table::check(table)?;
+    let table = Checked::new(table)?;
     let is_too_long = log.len() > table::LONGEST_LOG;
     if is_too_long {
         return Err(Refusal::Letters);
     }
-    weigh(table, counts.letters, log)
+    weigh(&table, log)
 }
 
 // The letters' own part of the answer. The kinds are asked for once, for every number that a letter can have, so that a letter of the log costs one look at them.
-fn weigh(table: &[u8], letters: usize, log: &[u8]) -> Result<Tally, Refusal>
-    requires { (verdict table.now ≡ 0) × ((letters ≡ letter_count (parse table.now)) × (length log.now ≤ longest_log)) }
-    ensures { weighed_as result ≡ letters_weighed (parse table.now) log.now }
+fn weigh(table: &Checked, log: &[u8]) -> Result<Tally, Refusal>
+    requires { length log.now ≤ longest_log }
+    ensures { weighed_as result ≡ letters_weighed (meant table.now) log.now }
 {
-    let added = changes(table);
+    let letters = table.counts.letters;
+    let added = changes(table.bytes);
     let mut tally = Tally {
         balance: 0,
         lowest: 0,

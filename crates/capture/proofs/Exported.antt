@@ -13,13 +13,15 @@ use Rattle.std.specs.Prelude.{Result}
 use Rattle.table.specs.declared.refusal.Refusal.{Refusal}
 use Rattle.reader.specs.declared.Heard as declared
 use Rattle.reader.specs.Answers.{heard_as}
-use Rattle.capture.specs.Steps.{OnWords}
+use Rattle.capture.specs.Steps.{value_of, OnWords}
 use Rattle.vpa.specs.ReaderComputed.{Heard}
 use Rattle.table.specs.Answers.{Answer}
 use Rattle.table.specs.Calls.{for_table}
+use Rattle.table.specs.Logs.{longest_log}
+use Rattle.table.proofs.Logs.{longest_log_lem}
 use Rattle.reader.specs.Calls.{Reply}
 use Rattle.capture.specs.Calls.{Exported, on_bytes}
-use Rattle.capture.specs.Numbers.{heard_number}
+use Rattle.capture.specs.Numbers.{kind_size, heard_number}
 use Rattle.capture.specs.State.{state_bytes, lent_words, with_words}
 
 module _ (s bytes : List ℕ) (call : List ℕ → Reply) where
@@ -63,3 +65,10 @@ module _ (s bytes : List ℕ) (call : List ℕ → Reply) {F : Type 0} {g : Once
           enough_answer s bytes call l words p.0 w.told,
           enough_written s bytes call l words (sym w.called.leaves ∙ p.1) w.written,
         )
+
+-- Such a call answers with small values.
+module _ (call : List ℕ → Reply) {F : Type 0} {g : Once F (MutBor (List ℕ) × Unit {0}) (Result declared.Heard Refusal × (MutBor (List ℕ) × Unit {0}))} {f : F} where
+  pub on_words_small : ((words : List ℕ) → value_of (call words).answer ≤ longest_log)
+      → ((words left : List ℕ) (heard : Result declared.Heard Refusal) (called : FnOnceReturnsAtMut g f words heard left) → heard_as heard ≡ (call called.shown.now).answer)
+      → (words left : List ℕ) (heard : Result declared.Heard Refusal) → FnOnceReturnsAtMut g f words heard left → value_of (heard_as heard) < kind_size
+  on_words_small low replies words left heard called = omega (arith, ap value_of (replies words left heard called), longest_log_lem, low called.shown.now)

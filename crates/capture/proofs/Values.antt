@@ -1,14 +1,17 @@
 -- The values of the answers are small, so that a number tells its kind and its value.
-use Prim.Native.Nat.{ℕ, ◌≤◌}
+use Prim.Native.Nat.{ℕ, ◌<◌, ◌≤◌}
 use mathlib.Core.Bool.{Bool, true, false, cond}
 use mathlib.Core.List.{List, [], ◌∷◌}
 use mathlib.Core.Option.{Option, some}
 use mathlib.Core.Path.{◌≡◌, refl, sym, ap, ◌∙◌}
+use borrow.Author.Rules.{rules}
 use native.Mathlib.Omega.{arith}
 use lib.ListN.{length}
+use Rattle.std.specs.Prelude.{Result, Ok, Err, IfOk}
 use Rattle.vpa.specs.ReaderComputed.{ReaderState, Heard, going, accepted, unfinished, stop_at, begin_state, heard, finished?, finish_heard}
 use Rattle.vpa.specs.TableOnDisk.{Table}
-use Rattle.table.specs.Answers.{Answer, answered}
+use Rattle.table.specs.Answers.{Answer, answered, written_as}
+use Rattle.table.specs.declared.refusal.Refusal.{Refusal}
 use Rattle.table.specs.Calls.{write_answer}
 use Rattle.table.specs.Layout.{parse}
 use Rattle.table.specs.Logs.{longest_log}
@@ -29,6 +32,7 @@ use Rattle.reader.proofs.CallLaws.{Replies, Begins, begin_no_table, begin_few_wo
 use Rattle.reader.proofs.InPlace.{legal_fits}
 use Rattle.whole_log.specs.Calls.{goes?, followed, log_call}
 use Rattle.whole_log.proofs.CallLaws.{Checks, log_no_table, log_few_words, log_too_long, log_answers, log_does}
+use Rattle.capture.specs.Numbers.{kind_size}
 use Rattle.capture.specs.Steps.{value_of}
 
 -- A place counts the letters taken.
@@ -145,3 +149,8 @@ unfolding most_shown
 shortest_count s scratch out {n = n} call e =
     let h = shortest_shown s scratch out call n e in
     ((length_exact s scratch out call h.good h.lends n).0 e).1
+
+-- So a number tells how many were written.
+pub written_small : (result : Result ℕ Refusal) {answer : Answer ℕ} → written_as result ≡ answer → ((n : ℕ) → answer ≡ answered n → n ≤ 4200) → IfOk result (λ count. count < kind_size)
+written_small (Ok count) e low = omega (arith, low count (sym e))
+written_small (Err refusal) e low = search rules

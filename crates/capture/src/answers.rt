@@ -1,9 +1,9 @@
 // The numbers that the exported calls answer with: a kind times 2^32, and a value below that. The kinds are listed in specs/Numbers.
-ghost use Rattle.std.specs.Prelude.{◌<◌, ◌≡◌};
-ghost use Rattle.table.specs.Answers.{number_of};
+ghost use Rattle.std.specs.Prelude.{◌<◌, ◌≡◌, IfOk};
+ghost use Rattle.table.specs.Answers.{number_of, written_as};
 ghost use Rattle.table.specs.Calls.{for_table};
 ghost use Rattle.reader.specs.Answers.{heard_as};
-ghost use Rattle.capture.specs.Numbers.{kind_size, numbered, heard_number};
+ghost use Rattle.capture.specs.Numbers.{kind_size, written_number, heard_number};
 ghost use Rattle.capture.specs.Steps.{value_of};
 
 use reader::Heard;
@@ -33,11 +33,15 @@ pub fn refused(refusal: Refusal) -> u64
     u64::from(u8::from(refusal))
 }
 
-pub fn written(count: usize) -> u64
-    requires { count < kind_size }
-    ensures { result ≡ numbered 5 count }
+// How many bytes or letters were written, or the refusal.
+pub fn written(answer: Result<usize, Refusal>) -> u64
+    requires { IfOk answer (λ count. count < kind_size) }
+    ensures { result ≡ written_number (written_as answer) }
 {
-    WRITTEN + count as u64
+    match answer {
+        Ok(count) => WRITTEN + count as u64,
+        Err(refusal) => refused(refusal),
+    }
 }
 
 pub fn heard(answer: Result<Heard, Refusal>) -> u64

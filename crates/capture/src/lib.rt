@@ -37,10 +37,7 @@ pub fn nomyugereka_write(table: &[u8], out: &mut [u8]) -> u64
     ensures value { result ≡ written_number (write_answer table.now out.old) }
     ensures out_after { out.new ≡ write_out table.now out.old }
 {
-    match table::write(table, out) {
-        Ok(count) => answers::written(count),
-        Err(refusal) => answers::refused(refusal),
-    }
+    answers::written(table::write(table, out))
 }
 
 pub fn nomyugereka_trim(table: &[u8], scratch: &mut [u16], out: &mut [u8]) -> u64
@@ -48,20 +45,16 @@ pub fn nomyugereka_trim(table: &[u8], scratch: &mut [u16], out: &mut [u8]) -> u6
     ensures scratch_after { scratch.new ≡ (trim_call table.now scratch.old out.old).scratch }
     ensures out_after { out.new ≡ (trim_call table.now scratch.old out.old).out }
 {
-    match trim::trim(table, scratch, out) {
-        Ok(count) => answers::written(count),
-        Err(refusal) => answers::refused(refusal),
-    }
+    answers::written(trim::trim(table, scratch, out))
 }
 
 // Which log is written is open where several are shortest; nothing else is: `exported_shortest_once` of proofs/CallLaws.
 pub fn nomyugereka_shortest(table: &[u8], scratch: &mut [u16], out: &mut [u8]) -> u64
     ensures { ExportedShortest table.now scratch.old out.old result scratch.new out.new }
 {
-    match shortest::shortest(table, scratch, out) {
-        Ok(Some(count)) => answers::written(count),
-        Ok(None) => answers::NO_LOG,
-        Err(refusal) => answers::refused(refusal),
+    match shortest::shortest(table, scratch, out).transpose() {
+        Some(answer) => answers::written(answer),
+        None => answers::NO_LOG,
     }
 }
 

@@ -13,6 +13,7 @@ pub fn words_in(bytes: &[u8]) -> [u64; layout::STATE]
     requires { state_bytes ≤ length bytes.now }
     ensures { result ≡ lent_words bytes.now }
 {
+    // By places and not by the pieces of `as_chunks`: the clause of `word_at` stays, which takes the word at a place, as `words_from` of specs/State does.
     std::array::from_fn(|i| word_at(bytes, 8 * i))
 }
 
@@ -20,13 +21,14 @@ fn word_at(bytes: &[u8], place: usize) -> u64
     requires { place + 8 ≤ length bytes.now }
     ensures { result ≡ word_at bytes.now place }
 {
-    u64::from_le_bytes(std::array::from_fn(|k| bytes[place + k]))
+    u64::from_le_bytes(bytes[place..].as_chunks().0[0])
 }
 
 pub fn put(bytes: &mut [u8], words: &[u64])
     requires { (state_bytes ≤ length bytes.old) × (length words.now ≡ state_size) }
     ensures { bytes.new ≡ with_words bytes.old words.now }
 {
+    // By places: the proof by `as_chunks_mut` doesn't close, since its contract says nothing of what the slice ends as.
     for (i, &word) in words.iter().enumerate() {
         put_word(bytes, 8 * i, word);
     }

@@ -1,5 +1,4 @@
 pub mod Chains
-pub mod Counts
 pub mod LowerAround
 pub mod LowerMany
 pub mod LowerOne

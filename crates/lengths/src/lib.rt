@@ -53,11 +53,12 @@ pub fn chain(table: &[u8], column: usize) -> [usize; CHAIN]
     requires { (verdict table.now ≡ 0) × ((column ≡ 0) ⊎ (column ≡ 3)) }
     ensures { Chained (moves_part table.now) column result }
 {
-    let part = table::checked_moves(table);
+    let quads = table::checked_moves(table).as_chunks::<4>().0;
+    // A number past the moves is none, and no Option, since `Chained` speaks of numbers.
     let mut r = [Table::MOVES; CHAIN];
     // The numbers themselves are what is chained, from the last move to the first.
-    for k in (0..part.len() / 4).rev() {
-        let x = part[4 * k + column] as usize;
+    for k in (0..quads.len()).rev() {
+        let x = usize::from(quads[k][column]);
         r[64 + k] = r[x];
         r[x] = k;
     }
@@ -149,6 +150,7 @@ impl<'a> Links<'a> {
 
 // The pairs that are due, a row of digits for each first half, and for each row the length of its shortest pair; NONE where the row is empty, and no Option, so
 // that lengths are compared as they stand.
+// The lengths stay a slice beside it: with a `&mut [u16]` in the struct, each clause from `LoweredTo` to `Settled` had to say also that the slice held is the same.
 #[derive(Drop)]
 struct Queue {
     due: [u64; 64],
@@ -247,8 +249,8 @@ fn lower_plain(table: &Checked, scratch: &mut [u16], queue: &mut Queue)
 {
     let part = table.moves();
     for &[from, letter, _, to] in part.as_chunks::<4>().0 {
-        if nesting::is_of_kind(table.bytes, letter as usize, Kind::Plain) {
-            lower(scratch, queue, from as usize, to as usize, 1);
+        if nesting::is_of_kind(table.bytes, usize::from(letter), Kind::Plain) {
+            lower(scratch, queue, usize::from(from), usize::from(to), 1);
         }
     }
 }
@@ -280,6 +282,7 @@ fn soonest_in(scratch: &[u16], row: u64, p: usize) -> usize
     requires { (p < 64) × ((4096 ≤ length scratch.now) × (row ≡ 0 → ⊥)) }
     ensures { (result < 64) × (bit row result ≡ 1) }
 {
+    // A loop and no `min_by_key`: that asks, of every run, that the closure may be called (`callable`: q < 64), which the loop has of each q by `come_next`.
     let mut best = row.trailing_zeros() as usize;
     for q in relation::ones_of(row) {
         if length_at(scratch, p, q) < length_at(scratch, p, best) {
@@ -343,15 +346,16 @@ fn lower_around(
     ensures { LoweredAround (meant links.entry.table.now) p q moves scratch.old queue.old.due scratch.new queue.new.due }
 {
     let part = links.moves();
+    let quads = part.as_chunks::<4>().0;
     for k in links.reaching(p) {
-        let i = 4 * k;
-        if nesting::is_of_kind(links.table.bytes, part[i + 1] as usize, Kind::Open) {
+        let [from, letter, mark, _] = quads[k];
+        if nesting::is_of_kind(links.table.bytes, usize::from(letter), Kind::Open) {
             lower_closing(
                 links,
                 scratch,
                 queue,
-                part[i] as usize,
-                part[i + 2] as usize,
+                usize::from(from),
+                usize::from(mark),
                 q,
                 moves + 2,
             );
@@ -373,10 +377,11 @@ fn lower_closing(
     ensures { LoweredClosing (meant links.entry.table.now) p mark q moves scratch.old queue.old.due scratch.new queue.new.due }
 {
     let part = links.moves();
+    let quads = part.as_chunks::<4>().0;
     for k in links.leaving(q) {
-        let i = 4 * k;
-        if nesting::is_move_of(links.table.bytes, part, i, Kind::Close, mark) {
-            lower(scratch, queue, p, part[i + 3] as usize, moves);
+        let [_, _, _, to] = quads[k];
+        if nesting::is_move_of(links.table.bytes, part, 4 * k, Kind::Close, mark) {
+            lower(scratch, queue, p, usize::from(to), moves);
         }
     }
 }

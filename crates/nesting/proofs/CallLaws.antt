@@ -1,7 +1,6 @@
 -- What pairs and levels are answered with, in the words of document 01: which pairs the rows hold, how many, which numbers refuse and what they leave.
 -- Last, two answers that meet the contract are one: it leaves nothing open.
 use Prim.Native.Nat.{ℕ, ◌<◌, ◌≤◌}
-use Rattle.std.specs.Prelude.{Result, Ok, Err, IfOk}
 use mathlib.Core.List.{List, Memᴰ}
 use mathlib.Core.Logic.{◌↔◌, inl, ⊎_elim}
 use mathlib.Core.Path.{◌≡◌, sym, ap, ◌∙◌}
@@ -13,18 +12,17 @@ use Rattle.vpa.specs.PairsLevelsTrimmed.{Balanced, Live}
 use Rattle.vpa.specs.TableOnDisk.{Table, state_count, automaton}
 use Rattle.vpa.proofs.TableLevels.{levels_live, levels_distinct, levels_complete, levels_iff}
 use Rattle.vpa.proofs.TablePairs.{pairs_bounds, pairs_distinct, pairs_iff}
-use Rattle.table.specs.declared.refusal.Refusal.{Refusal}
-use Rattle.table.specs.Answers.{refused, answered}
+use Rattle.table.specs.Answers.{Answer, refused, answered}
 use Rattle.table.specs.Bytes.{AreBytes}
 use Rattle.table.specs.Layout.{parse}
 use Rattle.table.specs.Refusals.{verdict}
-use Rattle.table.proofs.CallLaws.{same_refusal}
+use Rattle.table.proofs.CallLaws.{told_once}
 use Rattle.table.proofs.Tables.{good_storable, good_table}
 use Rattle.table.proofs.Lent.{Lent, is_no_table, is_short, is_lent, lent, on_no_table, on_short, on_lent, RefusedFor, lent_refused_iff}
 use Rattle.relation.specs.Relations.{Holds, HoldsExactly, size_of}
 use Rattle.relation.proofs.Relations.{size_most}
 use Rattle.nesting.specs.declared.Nesting.{Nesting}
-use Rattle.nesting.specs.Answers.{sizes_told, found_as}
+use Rattle.nesting.specs.Answers.{Sizes, sizes_told, found_as}
 use Rattle.nesting.specs.Calls.{rows, sizes_answer, nesting_answer, nesting_pairs, nesting_levels}
 use Rattle.nesting.specs.Scratch.{scratch_size, with_scratch, cleared, scratch_after}
 use Rattle.nesting.proofs.ListedRows.{Listed, Inside, rows_listed, rows_size}
@@ -124,39 +122,32 @@ nesting_refused s scratch k e = by (nesting_does s scratch) where
   by (no_scratch z l d u) = u
   by (nests z l d p v c) = absurd (no_refusal (parse s) (sym d ∙ e))
 
-module _ (s scratch : List ℕ) (good : verdict s ≡ 0) where
-  -- With too little scratch the call refuses with 7 and leaves it; with enough it answers with both relations and clears it.
-  pub when_short : length scratch < scratch_size → (nesting_answer s scratch ≡ refused 7) × (scratch_after s scratch ≡ scratch)
-  when_short few = (
-    on_short scratch_size s scratch (sizes_answer (parse s)) refused good few,
-    on_short scratch_size s scratch (cleared scratch) (λ k. scratch) good few,
-  )
+-- What the contract says of an answer, of rows and of scratch afterwards; and how the code comes to it, refusing or not.
+abbrev pub Meets : List ℕ → List ℕ → Answer Sizes → List ℕ → List ℕ → List ℕ → Type 0
+Meets s scratch answer pair_rows level_rows after =
+    (answer ≡ nesting_answer s scratch) × ((pair_rows ≡ nesting_pairs s scratch) × ((level_rows ≡ nesting_levels s scratch) × (after ≡ scratch_after s scratch)))
 
-  pub when_lent : scratch_size ≤ length scratch → (nesting_answer s scratch ≡ sizes_answer (parse s)) × (nesting_pairs s scratch ≡ rows (pairs (parse s)))
-      × (nesting_levels s scratch ≡ rows (levels (parse s))) × (scratch_after s scratch ≡ cleared scratch)
-  when_lent many = (
-    on_lent scratch_size s scratch (sizes_answer (parse s)) refused good many,
-    on_lent scratch_size s scratch (rows (pairs (parse s))) (λ k. replicate 64 0) good many,
-    on_lent scratch_size s scratch (rows (levels (parse s))) (λ k. replicate 64 0) good many,
-    on_lent scratch_size s scratch (cleared scratch) (λ k. scratch) good many,
-  )
+pub meets_refused : (s scratch : List ℕ) {k : ℕ} {answer : Answer Sizes} {p l : List ℕ} → nesting_answer s scratch ≡ refused k
+    → answer ≡ refused k → p ≡ replicate 64 0 → l ≡ replicate 64 0 → Meets s scratch answer p l scratch
+meets_refused s scratch {k} refusal e f g = let u = nesting_refused s scratch k refusal in (e ∙ sym refusal, (f ∙ sym u.0, (g ∙ sym u.1, sym u.2)))
 
--- What the contract says of an answer and of scratch afterwards.
-abbrev pub Meets : List ℕ → List ℕ → Result Nesting Refusal → List ℕ → Type 0
-Meets s scratch result after =
-    (found_as result ≡ nesting_answer s scratch)
-    × IfOk result (λ found. found.pairs ≡ nesting_pairs s scratch)
-    × IfOk result (λ found. found.levels ≡ nesting_levels s scratch)
-    × (after ≡ scratch_after s scratch)
+pub meets_found : (s scratch : List ℕ) {answer : Answer Sizes} {p l after : List ℕ} → verdict s ≡ 0 → scratch_size ≤ length scratch
+    → answer ≡ sizes_answer (parse s) → p ≡ rows (pairs (parse s)) → l ≡ rows (levels (parse s)) → after ≡ cleared scratch → Meets s scratch answer p l after
+meets_found s scratch good long e f g h = (
+  e ∙ sym (on_lent scratch_size s scratch (sizes_answer (parse s)) refused good long),
+  (
+    f ∙ sym (on_lent scratch_size s scratch (rows (pairs (parse s))) (λ k. replicate 64 0) good long),
+    (
+      g ∙ sym (on_lent scratch_size s scratch (rows (levels (parse s))) (λ k. replicate 64 0) good long),
+      h ∙ sym (on_lent scratch_size s scratch (cleared scratch) (λ k. scratch) good long),
+    ),
+  ),
+)
 
-pub nesting_once : (s scratch : List ℕ) (r q : Result Nesting Refusal) (o p : List ℕ) → Meets s scratch r o → Meets s scratch q p → (r ≡ q) × (o ≡ p)
-nesting_once s scratch r q o p a b = (by r q (a.0 ∙ sym b.0) a b, a.3 ∙ sym b.3) where
-  by : (r q : Result Nesting Refusal) → found_as r ≡ found_as q → Meets s scratch r o → Meets s scratch q p → r ≡ q
-  by (Err e) (Err d) same a b = ap Err (same_refusal e d (cc same))
-  by (Err e) (Ok y) same a b = absurd (let z : ◌≡◌ {A = ℕ} 0 1 = cc in omega arith)
-  by (Ok x) (Err d) same a b = absurd (let z : ◌≡◌ {A = ℕ} 0 1 = cc in omega arith)
-  by (Ok x) (Ok y) same a b =
-      let sizes : sizes_told x.sizes ≡ sizes_told y.sizes = cc same in
-      let ps = a.1 ∙ sym b.1 in
-      let ls = a.2 ∙ sym b.2 in
-      (λ i. Ok (record { sizes = record { pairs = (sizes i).pairs; levels = (sizes i).levels }; pairs = ps i; levels = ls i }))
+pub nesting_once : (s scratch : List ℕ) (r q : Nesting) (o p : List ℕ) → Meets s scratch (found_as r.found) r.pairs r.levels o
+    → Meets s scratch (found_as q.found) q.pairs q.levels p → (r ≡ q) × (o ≡ p)
+nesting_once s scratch r q o p a b =
+    let same-found = told_once sizes_told (λ x. record { pairs = x.pairs; levels = x.levels }) (λ x i. x) r.found q.found a.0 b.0 in
+    let same_pairs = a.1.0 ∙ sym b.1.0 in
+    let same-levels = a.1.1.0 ∙ sym b.1.1.0 in
+    (λ i. record { found = same-found i; pairs = same_pairs i; levels = same-levels i }, a.1.1.1 ∙ sym b.1.1.1)

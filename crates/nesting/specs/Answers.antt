@@ -2,7 +2,6 @@
 use Rattle.std.specs.Prelude.{ℕ, Result}
 use Rattle.table.specs.declared.refusal.Refusal.{Refusal}
 use Rattle.table.specs.Answers.{Answer, told}
-use Rattle.nesting.specs.declared.Nesting.{Nesting}
 use Rattle.nesting.specs.declared.Sizes as declared
 
 -- The numbers of balanced pairs and of live levels.
@@ -14,5 +13,5 @@ abbrev pub sizes_told : declared.Sizes → Sizes
 sizes_told sizes = record { pairs = sizes.pairs; levels = sizes.levels }
 
 -- Of the call: both numbers, or the refusal.
-abbrev pub found_as : Result Nesting Refusal → Answer Sizes
-found_as = told (λ found. sizes_told found.sizes)
+abbrev pub found_as : Result declared.Sizes Refusal → Answer Sizes
+found_as = told sizes_told

@@ -6,16 +6,16 @@
 // In what order the first two search is known to nothing but the functions that they call.
 #![tactic(auto)]
 
-ghost use Rattle.std.specs.Prelude.{ℕ, ◌+◌, ◌<◌, ◌≤◌, T, length, eqb, ◌&&◌, ◌↔◌, ◌≡◌, IfOk};
+ghost use Rattle.std.specs.Prelude.{ℕ, ◌+◌, ◌<◌, ◌≤◌, T, length, replicate, eqb, ◌&&◌, ◌↔◌, ◌≡◌};
 ghost use Rattle.vpa.specs.PairsComputed.{pairs, levels};
 ghost use Rattle.vpa.specs.TableOnDisk.{state_count, initial?, final?};
-ghost use Rattle.table.specs.Answers.{answered, kind_meant};
+ghost use Rattle.table.specs.Answers.{refused, number_of, kind_meant};
 ghost use Rattle.table.specs.Calls.{kind_answer};
 ghost use Rattle.table.specs.Layout.{parse};
 ghost use Rattle.table.specs.Refusals.{verdict};
 ghost use Rattle.relation.specs.Digits.{bit};
 ghost use Rattle.relation.specs.Relations.{HoldsExactly};
-ghost use Rattle.nesting.specs.Answers.{sizes_told, found_as};
+ghost use Rattle.nesting.specs.Answers.{found_as};
 ghost use Rattle.nesting.specs.Calls.{rows, sizes_answer, nesting_answer, nesting_pairs, nesting_levels};
 ghost use Rattle.nesting.specs.Scratch.{scratch_size, cleared, scratch_after};
 ghost use Rattle.nesting.specs.Steps.{IsChecked, MoveOf, AroundBy, Around, PairStart, PairRound, TopBack, InitialBelow, Beside, LevelRound, of_kind?, move_of?};
@@ -32,43 +32,60 @@ pub struct Sizes {
     pub levels: usize,
 }
 
-// The rows of both relations, and how many pairs they hold.
+// The answer, and beside it the rows of both relations. The rows are not part of the answer, since the clauses `pairs_value` and `levels_value` speak of them on a
+// refusal too: they are zeros then.
 #[derive(Clone, Copy)]
 pub struct Nesting {
-    pub sizes: Sizes,
+    pub found: Result<Sizes, Refusal>,
     pub pairs: [u64; 64],
     pub levels: [u64; 64],
 }
 
 // The balanced pairs and the live levels of a table, as rows and by number. Scratch is left as it was where the call refuses, and else is cleared.
 // That (j, k) is held exactly if it is balanced, or live: `nesting_pairs_iff` and `nesting_levels_iff` of proofs/CallLaws.
-pub fn pairs_and_levels(table: &[u8], scratch: &mut [u16]) -> Result<Nesting, Refusal>
-    ensures found_value { found_as result ≡ nesting_answer table.now scratch.old }
-    ensures pairs_value { IfOk result (λ found. found.pairs ≡ nesting_pairs table.now scratch.old) }
-    ensures levels_value { IfOk result (λ found. found.levels ≡ nesting_levels table.now scratch.old) }
+pub fn pairs_and_levels(table: &[u8], scratch: &mut [u16]) -> Nesting
+    ensures found_value { found_as result.found ≡ nesting_answer table.now scratch.old }
+    ensures pairs_value { result.pairs ≡ nesting_pairs table.now scratch.old }
+    ensures levels_value { result.levels ≡ nesting_levels table.now scratch.old }
     ensures scratch_after { scratch.new ≡ scratch_after table.now scratch.old }
 {
-    let counts = table::check(table)?;
-    if scratch.len() < SCRATCH {
-        return Err(Refusal::Lent);
+    match table::check(table) {
+        Err(refusal) => refused(refusal),
+        Ok(counts) => {
+            if scratch.len() < SCRATCH {
+                return refused(Refusal::Lent);
+            }
+            clear(scratch);
+            found_in(table, counts.states, counts.marks)
+        }
     }
-    clear(scratch);
-    Ok(found_in(table, counts.states, counts.marks))
+}
+
+fn refused(refusal: Refusal) -> Nesting
+    ensures found_value { found_as result.found ≡ refused (number_of refusal) }
+    ensures pairs_value { result.pairs ≡ replicate 64 0 }
+    ensures levels_value { result.levels ≡ replicate 64 0 }
+{
+    Nesting {
+        found: Err(refusal),
+        pairs: [0; 64],
+        levels: [0; 64],
+    }
 }
 
 fn found_in(table: &[u8], states: usize, marks: usize) -> Nesting
     requires { IsChecked table.now states marks }
-    ensures sizes_value { answered (sizes_told result.sizes) ≡ sizes_answer (parse table.now) }
+    ensures found_value { found_as result.found ≡ sizes_answer (parse table.now) }
     ensures pairs_value { result.pairs ≡ rows (pairs (parse table.now)) }
     ensures levels_value { result.levels ≡ rows (levels (parse table.now)) }
 {
     let pairs = balanced_pairs(table, states, marks);
     let levels = live_levels(table, marks, pairs);
     Nesting {
-        sizes: Sizes {
+        found: Ok(Sizes {
             pairs: relation::size(pairs),
             levels: relation::size(levels),
-        },
+        }),
         pairs,
         levels,
     }

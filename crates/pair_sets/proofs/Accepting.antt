@@ -17,8 +17,6 @@ use Rattle.std.specs.List.{Any, list_any}
 use Rattle.std.proofs.lemmas.List.Folds.{Any-from_list_any, list_any-from_Any}
 use Rattle.vpa.proofs.Lists.{is_true}
 use Rattle.vpa.proofs.TableMoves.{initial_bound}
-use Rattle.table.specs.declared.checked.Checked.{Checked}
-use Rattle.table.proofs.Tables.{good_storable}
 use Rattle.relation.specs.Digits.{bit, ones_of}
 use Rattle.relation.specs.Relations.{Holds, HoldsExactly, DigitsExactly}
 use Rattle.relation.proofs.Digits.{bit_inside}
@@ -32,10 +30,6 @@ holds e = subst T (sym e) tt
 
 fails : {b : Bool} → b ≡ false → T b → ⊥
 fails e h = subst T e h
-
--- A table that was checked has no more states than a row has digits.
-pub states_most : (t : Checked) → t.counts.states ≤ 64
-states_most t = omega (arith, t.states, (good_storable _ t.good).states)
 
 -- A row of the first pairs.
 pub started_row : {t : Table} {p : ℕ} (y : ℕ) → ((k : ℕ) → (bit y k ≡ 1) ↔ ((k ≡ p) × T (initial? t k))) → (k : ℕ) → (bit y k ≡ 1) ↔ Started (automaton t) p k

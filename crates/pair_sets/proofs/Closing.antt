@@ -13,6 +13,7 @@ use lib.Dec.{eqb}
 use lib.ListN.{length, get_or, set, replicate, length-set}
 use lib.Seq.{get_or-set_same, get_or-set_other}
 use Rattle.std.specs.List.{Contains}
+use Rattle.std.specs.Simd.{first_chunks}
 use Rattle.std.proofs.lemmas.List.Elements.{Contains-push, Contains-push_cases, Contains-append_left}
 use Rattle.vpa.specs.Automaton.{opening, closing, open_move, close_move}
 use Rattle.vpa.specs.Reader as reader
@@ -23,6 +24,7 @@ use Rattle.table.specs.Layout.{moves_part, parse}
 use Rattle.table.specs.Refusals.{verdict}
 use Rattle.table.proofs.All.{both}
 use Rattle.table.proofs.Entries.{move_in}
+use Rattle.table.proofs.Quads.{quad_byte}
 use Rattle.table.proofs.Tables.{good_part_length, move_place}
 use Rattle.relation.specs.Digits.{bit, ones_of}
 use Rattle.relation.specs.Relations.{Holds, HoldsExactly, RowsBelow, Joined, DigitsExactly, InSome}
@@ -78,30 +80,36 @@ pub record LinksAt (t : Table) (u : List ℕ) (a : ℕ) (inside : List ℕ) (b k
   pub by : byte u (4 * k + 1) ≡ a
   pub closes : Closes t (get_or inside (byte u (4 * k + 3)) 0) b (byte u (4 * k + 2)) s
 
--- What the tests of a move tell.
-module _ {u : List ℕ} {a k : ℕ} where
+-- The pieces of four that a table's moves are cut into: a byte of move k.
+pub quad_of : {u part : List ℕ} {quads : List (List ℕ)} → part ≡ u → quads ≡ first_chunks 4 (length part / 4) part → (k : ℕ) → k < length u / 4 → (j : ℕ) → j < 4
+    → get_or (get_or quads k []) j 0 ≡ byte u (4 * k + j)
+quad_of {u} part front k l j m = rw (front, part) (quad_byte u k j [] l m)
+
+-- What the tests of a move tell, which is read as a piece of four.
+module _ {u : List ℕ} {a k : ℕ} (piece : List ℕ) (at : (j : ℕ) → j < 4 → get_or piece j 0 ≡ byte u (4 * k + j)) where
   module _ {γ : ℕ} where
-    pub leads_here : eqb (byte u (4 * k + 1)) a && eqb (byte u (4 * k + 2)) γ ≡ true → byte u (4 * k + 3) < 64
-        → DigitsExactly (1 * 2 ^ byte u (4 * k + 3) % 2 ^ 64) (LeadsAt u a γ k)
+    pub leads_here : eqb (get_or piece 1 0) a && eqb (get_or piece 2 0) γ ≡ true → get_or piece 3 0 < 64
+        → DigitsExactly (1 * 2 ^ get_or piece 3 0 % 2 ^ 64) (LeadsAt u a γ k)
     leads_here e l =
-        let w = both (eqb (byte u (4 * k + 1)) a) (eqb (byte u (4 * k + 2)) γ) e in
+        let w = both (eqb (get_or piece 1 0) a) (eqb (get_or piece 2 0) γ) e in
         record {
           at = λ s. (
-            λ d. record { by = eqb-true _ _ w.0; mark = eqb-true _ _ w.1; to = sym ((one_digit l s).0 d) },
-            λ m. (one_digit l s).1 (sym m.to),
+            λ d. record { by = sym (at 1 (omega arith)) ∙ eqb-true _ _ w.0; mark = sym (at 2 (omega arith)) ∙ eqb-true _ _ w.1; to = sym ((one_digit l s).0 d ∙ at 3 (omega arith)) },
+            λ m. (one_digit l s).1 (sym (at 3 (omega arith) ∙ m.to)),
           );
         }
 
-    pub leads_other : eqb (byte u (4 * k + 1)) a && eqb (byte u (4 * k + 2)) γ ≡ false → (s : ℕ) → LeadsAt u a γ k s → ⊥
-    leads_other e s m = eqb-false _ _ (rw (eq-eqb _ _ m.by) at e) m.mark
+    pub leads_other : eqb (get_or piece 1 0) a && eqb (get_or piece 2 0) γ ≡ false → (s : ℕ) → LeadsAt u a γ k s → ⊥
+    leads_other e s m = eqb-false _ _ (rw (eq-eqb _ _ (at 1 (omega arith) ∙ m.by)) at e) (at 2 (omega arith) ∙ m.mark)
 
   module _ {t : Table} {inside : List ℕ} {b : ℕ} where
-    pub links_here : byte u (4 * k + 1) ≡ a → {v : ℕ} → DigitsExactly v (Closes t (get_or inside (byte u (4 * k + 3)) 0) b (byte u (4 * k + 2)))
+    pub links_here : get_or piece 1 0 ≡ a → {v : ℕ} → DigitsExactly v (Closes t (get_or inside (get_or piece 3 0) 0) b (get_or piece 2 0))
         → DigitsExactly v (LinksAt t u a inside b k)
-    links_here e d = record { at = λ s. (λ o. record { by = e; closes = (d.at s).0 o }, λ m. (d.at s).1 m.closes) }
+    links_here e d = let c = rw (at 3 (omega arith), at 2 (omega arith)) at d in
+        record { at = λ s. (λ o. record { by = sym (at 1 (omega arith)) ∙ e; closes = (c.at s).0 o }, λ m. (c.at s).1 m.closes) }
 
-    pub links_other : (byte u (4 * k + 1) ≡ a → ⊥) → (s : ℕ) → LinksAt t u a inside b k s → ⊥
-    links_other n s m = n m.by
+    pub links_other : (get_or piece 1 0 ≡ a → ⊥) → (s : ℕ) → LinksAt t u a inside b k s → ⊥
+    links_other n s m = n (at 1 (omega arith) ∙ m.by)
 
 -- u holds the bytes of a table's moves.
 module _ (z : List ℕ) (good : verdict z ≡ 0) {u : List ℕ} (part : u ≡ moves_part z) where

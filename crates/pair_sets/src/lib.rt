@@ -26,6 +26,7 @@ use table::{Checked, Table};
 pub const LETTER_ROWS: usize = Table::STATES * Table::LETTERS;
 
 // For each letter its relation, whatever the marks: row 64 a + p has the states to which letter a leads from p. One flat array, as `ByLetter` says it.
+// Not in a struct with the table and the chain, since docs/DECISIONS.md names this function, which makes the rows of all letters for `read_log` and `letter`.
 pub fn by_letter(table: &[u8]) -> [u64; LETTER_ROWS]
     requires { verdict table.now ≡ 0 }
     ensures { ByLetter (parse table.now) result }
@@ -97,13 +98,14 @@ impl<'a> Moves<'a> {
         ensures { DigitsExactly result (Linked (meant self.entry.table.now) opener inside.now closer q) }
     {
         let part = self.table.moves();
+        let quads = part.as_chunks::<4>().0;
         let mut y = 0;
-        // The chain gives moves by their numbers, so they are read at their places among the flat bytes.
         for k in self.leaving(q) {
-            let is_opener = part[4 * k + 1] as usize == opener;
+            let [_, by, mark, to] = quads[k];
+            let is_opener = usize::from(by) == opener;
             if is_opener {
-                let ends = inside[part[4 * k + 3] as usize];
-                y |= self.closed(ends, closer, part[4 * k + 2] as usize);
+                let ends = inside[usize::from(to)];
+                y |= self.closed(ends, closer, usize::from(mark));
             }
         }
         y
@@ -126,13 +128,13 @@ impl<'a> Moves<'a> {
         ensures { DigitsExactly result (Leads (meant self.entry.table.now) p letter mark) }
     {
         let part = self.table.moves();
+        let quads = part.as_chunks::<4>().0;
         let mut y = 0;
-        // Read at their places, as in `linked`.
         for k in self.leaving(p) {
-            let is_asked = (part[4 * k + 1] as usize == letter)
-                & (part[4 * k + 2] as usize == mark);
+            let [_, by, with, to] = quads[k];
+            let is_asked = (usize::from(by) == letter) & (usize::from(with) == mark);
             if is_asked {
-                y |= 1u64 << part[4 * k + 3];
+                y |= 1 << to;
             }
         }
         y

@@ -111,8 +111,8 @@ pub fn begin(table: &[u8], state: &mut [u64]) -> Result<Heard, Refusal>
     ensures result_value { heard_as result ≡ (begin_call table.now state.old).answer }
     ensures state_after { state.new ≡ (begin_call table.now state.old).words }
 {
-    // Begins as `letter` and `finish` do: a function for the tests at the start would need a contract longer than they are.
     let table = Checked::new(table)?;
+    // The words need not stand for a state yet, so this is not `state_verdict`.
     if state.len() < layout::STATE {
         return Err(Refusal::Lent);
     }
@@ -126,16 +126,7 @@ pub fn letter(table: &[u8], state: &mut [u64], letter: u8) -> Result<Heard, Refu
     ensures state_after { state.new ≡ (letter_call table.now state.old letter).words }
 {
     let table = Checked::new(table)?;
-    if state.len() < layout::STATE {
-        return Err(Refusal::Lent);
-    }
-    let memory = Memory {
-        table: &table,
-        state: &*state,
-    };
-    if !memory.is_legal() {
-        return Err(Refusal::State);
-    }
+    state_verdict(&table, state)?;
     read(&table, state, usize::from(letter))
 }
 
@@ -144,17 +135,22 @@ pub fn finish(table: &[u8], state: &[u64]) -> Result<Heard, Refusal>
     ensures { heard_as result ≡ (finish_call table.now state.now).answer }
 {
     let table = Checked::new(table)?;
+    state_verdict(&table, state)?;
+    Ok(end(&table, state, head_in(state)))
+}
+
+// Whether the words that were lent are enough and stand for a state on the table; if not, why.
+fn state_verdict(table: &Checked, state: &[u64]) -> Result<(), Refusal>
+    ensures { cond (ltb (length state.now) state_size) 7 (cond (legal? (meant table.now) state.now) 0 14) ≡ number_told result }
+{
     if state.len() < layout::STATE {
         return Err(Refusal::Lent);
     }
-    let memory = Memory {
-        table: &table,
-        state,
-    };
+    let memory = Memory { table, state };
     if !memory.is_legal() {
         return Err(Refusal::State);
     }
-    Ok(end(&table, state, head_in(state)))
+    Ok(())
 }
 
 // Writes the first state.
@@ -201,6 +197,7 @@ pub fn letter_verdict(table: &Checked, head: Head, letter: usize) -> Result<(), 
     if letter >= table.counts.letters {
         return Err(Refusal::Letter);
     }
+    // The tests of the limits have names, since the edits on the limits change these lines and the names of the steps have to stay.
     let is_full = head.taken >= table::LONGEST_LOG;
     if is_full {
         return Err(Refusal::Letters);
@@ -213,6 +210,8 @@ pub fn letter_verdict(table: &Checked, head: Head, letter: usize) -> Result<(), 
 }
 
 // What a letter that is not refused makes of a running state. The words and the head stay two arguments: the words are lent, and the head is a new one each time.
+// Nor is `&mut [u64]` in a struct that knows its length. Tried with `put_head`: its clause becomes `Written .. words.old.state.now words.new.state.now`, and from
+// there the proof did not close to `state.new` of a function that was lent the words, as `begin`, `letter` and `start` are.
 pub fn step(moves: Moves, rows: &[u64], state: &mut [u64], head: Head, letter: usize) -> Head
     requires by_letter { ByLetter (meant moves.table.now) rows.now }
     requires ready { Ready (meant moves.table.now) state.old head.depth × ((head.stopped ≡ false) × (letter_verdict (meant moves.table.now) (state_with head state.old) letter ≡ 0)) }

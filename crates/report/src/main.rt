@@ -44,10 +44,10 @@ fn report(rt: &impl Print, table: &[u8]) -> io::Result<()> {
 }
 
 fn show_nesting(rt: &impl Print, table: &[u8]) -> io::Result<()> {
-    match nesting::pairs_and_levels(table, &mut [0u16; SCRATCH]) {
-        Ok(found) => {
-            lines::count(rt, "pairs", found.sizes.pairs)?;
-            lines::count(rt, "levels", found.sizes.levels)
+    match nesting::pairs_and_levels(table, &mut [0u16; SCRATCH]).found {
+        Ok(sizes) => {
+            lines::count(rt, "pairs", sizes.pairs)?;
+            lines::count(rt, "levels", sizes.levels)
         }
         Err(refusal) => {
             lines::refused_for(rt, "pairs", refusal)?;
@@ -79,7 +79,7 @@ fn show_shortest(rt: &impl Print, table: &[u8]) -> io::Result<()> {
     }
 }
 
-// The first bytes of a slice, or all of a shorter one.
+// The first bytes of a slice, or all of a shorter one. `vectors` has the same line: two programs share libraries only, and none of those is about slices.
 fn front(bytes: &[u8], size: usize) -> &[u8] {
     bytes.get(..size).unwrap_or(bytes)
 }

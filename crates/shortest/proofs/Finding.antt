@@ -48,14 +48,17 @@ module _ {part : List ℕ} {column x : ℕ} {P : ℕ → Type 0} {chain : List �
     passed = rw go (walked_more h.chained (searching_low l) p (searching_here e));
   }
 
--- What is written, read from the moves' part as a function holds it.
-pub stepped : {t : Table} {part u out : List ℕ} {p q place k : ℕ} → u ≡ part → PlainAt t part p q k → WrotePlain t part p q place out (set out place (byte u (4 * k + 1)))
+-- What is written, the bytes being those of the moves.
+pub stepped : {t : Table} {part out : List ℕ} {p q place k letter : ℕ} → letter ≡ byte part (4 * k + 1) → PlainAt t part p q k
+    → WrotePlain t part p q place out (set out place letter)
 stepped e h = record { k = _; by = h; wrote = rw e }
 
-pub opened : {t : Table} {part u s out : List ℕ} {walk : Walk} {via moves place k j : ℕ} → u ≡ part → NestAt t part (length_in s) walk.here via moves k j
-    → WroteOpen t part walk via moves place s out (with_pending s walk.depth (byte u (4 * j + 1)) via walk.goal) (set out place (byte u (4 * k + 1)))
-    (record { here = byte u (4 * k + 3); goal = byte u (4 * j); depth = walk.depth + 1; left = walk.left - 1 })
-opened e h = record { k = _; j = _; by = h; close = rw e; wrote = rw e; goes = rw (e, add-one) }
+pub opened : {t : Table} {part s out : List ℕ} {walk : Walk} {via moves place k j letter close here goal : ℕ}
+    → letter ≡ byte part (4 * k + 1) → close ≡ byte part (4 * j + 1) → here ≡ byte part (4 * k + 3) → goal ≡ byte part (4 * j)
+    → NestAt t part (length_in s) walk.here via moves k j
+    → WroteOpen t part walk via moves place s out (with_pending s walk.depth close via walk.goal) (set out place letter)
+    (record { here = here; goal = goal; depth = walk.depth + 1; left = walk.left - 1 })
+opened l c w g h = record { k = _; j = _; by = h; close = rw c; wrote = rw l; goes = rw (w, g, add-one) }
 
 -- From here on u holds the bytes of a table's moves.
 module _ (s : List ℕ) {u : List ℕ} (good : verdict s ≡ 0) (part : u ≡ moves_part s) where

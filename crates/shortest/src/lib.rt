@@ -28,6 +28,8 @@ struct Top {
 }
 
 // Where the writing of a log stands: at a state, on the way to another, so many levels deep, with so many letters left, which only the proof asks for.
+// `left` is a number among the fields and no ghost field, which holds a fact and no number: `Writing` names it, and the clauses `value` count it down.
+// Scratch and out stay parameters: with two `&mut` in the struct, `WroteLetter` had to say also that the slices held are the same.
 #[derive(Drop)]
 struct Walk {
     here: usize,
@@ -44,6 +46,7 @@ struct Nest {
 }
 
 // Closes that are pending stand in scratch after the lengths, three numbers each: the letter, the state that it leads to, the goal of the level around.
+// Numbers and no array of structs, since there is no heap and the caller lends scratch as cells of 16 bits.
 const PENDING: usize = lengths::COUNT;
 
 // Writes a shortest accepted log to the front of out, and answers how many letters it has; or that no log is accepted. Where it writes nothing, `out` is
@@ -188,8 +191,8 @@ fn close_level(walk: Walk, place: usize, scratch: &[u16], out: &mut [u8]) -> Wal
     let close = PENDING + 3 * depth;
     out[place] = scratch[close] as u8;
     Walk {
-        here: scratch[close + 1] as usize,
-        goal: scratch[close + 2] as usize,
+        here: usize::from(scratch[close + 1]),
+        goal: usize::from(scratch[close + 2]),
         depth,
         left: walk.left - 1,
     }
@@ -202,9 +205,9 @@ fn step_to(links: Links, walk: Walk, via: usize, place: usize, out: &mut [u8]) -
     ensures wrote_plain { WrotePlain (meant links.entry.table.now) (moves_part links.entry.table.now.bytes.now) walk.here via place out.old out.new }
     ensures value { result ≡ record { here = via; goal = walk.goal; depth = walk.depth; left = walk.left - 1 } }
 {
-    let part = links.moves();
     let k = find_plain(links, walk.here, via).unwrap();
-    out[place] = part[4 * k + 1];
+    let [_, letter, _, _] = links.moves().as_chunks::<4>().0[k];
+    out[place] = letter;
     Walk {
         here: via,
         left: walk.left - 1,
@@ -228,18 +231,18 @@ fn open_level(
     requires some_nest { SomeNest (meant links.table.now) (moves_part links.table.now.bytes.now) (length_in scratch.old) walk.here via moves }
     ensures { WroteOpen (meant links.entry.table.now) (moves_part links.entry.table.now.bytes.now) walk via moves place scratch.old out.old scratch.new out.new result }
 {
-    let part = links.moves();
     let nest = nest_of(links, hints, scratch, walk.here, via, moves);
-    let opens = 4 * nest.opens;
-    let closes = 4 * nest.closes;
-    out[place] = part[opens + 1];
+    let quads = links.moves().as_chunks::<4>().0;
+    let [_, letter, _, inside] = quads[nest.opens];
+    let [end, closing, _, _] = quads[nest.closes];
+    out[place] = letter;
     let close = PENDING + 3 * walk.depth;
-    scratch[close] = part[closes + 1] as u16;
+    scratch[close] = u16::from(closing);
     scratch[close + 1] = via as u16;
     scratch[close + 2] = walk.goal as u16;
     Walk {
-        here: part[opens + 3] as usize,
-        goal: part[closes] as usize,
+        here: usize::from(inside),
+        goal: usize::from(end),
         depth: walk.depth + 1,
         left: walk.left - 1,
     }
@@ -251,6 +254,7 @@ fn nearest_via(scratch: &[u16], states: usize, p: usize, q: usize) -> usize
     requires q_nonzero { (0 < length_in scratch.now p q) × (length_in scratch.now q q ≡ 0) }
     ensures { Via states (length_in scratch.now) p q result }
 {
+    // A loop and no `filter` with `min_by_key`: that reads a length for the test and again for the key, and asks for r < 64 in closures, which nothing bounds there.
     let whole = lengths::length_at(scratch, p, q);
     let mut best = q;
     let mut least = whole;
@@ -270,12 +274,12 @@ fn find_plain(links: Links, p: usize, q: usize) -> Option<usize>
     requires { p < 64 }
     ensures { MoveFound (PlainAt (meant links.entry.table.now) (moves_part links.entry.table.now.bytes.now) p q) result }
 {
-    let part = links.moves();
+    let quads = links.moves().as_chunks::<4>().0;
+    // A loop and no `find`, here and in the two searches below: what bounds k is the run of `Along`, and a closure is given k alone.
     for k in links.leaving(p) {
-        let ends = part[4 * k + 3] as usize;
-        if (ends == q)
-            & nesting::is_of_kind(links.table.bytes, part[4 * k + 1] as usize, Kind::Plain)
-        {
+        let [_, letter, _, to] = quads[k];
+        let ends = usize::from(to) == q;
+        if ends & nesting::is_of_kind(links.table.bytes, usize::from(letter), Kind::Plain) {
             return Some(k);
         }
     }
@@ -296,7 +300,7 @@ fn nest_of(
     requires some_nest { SomeNest (meant links.table.now) (moves_part links.table.now.bytes.now) (length_in scratch.now) p r moves }
     ensures { NestAt (meant links.entry.table.now) (moves_part links.entry.table.now.bytes.now) (length_in scratch.now) p r moves result.opens result.closes }
 {
-    let hint = hints[64 * p + r] as usize;
+    let hint = usize::from(hints[64 * p + r]);
     if let Some(k) = open_for(links, scratch, p, r, hint, moves) {
         return Nest {
             opens: k,
@@ -320,16 +324,13 @@ fn open_for(
     requires { (p < 64) × (4096 ≤ length scratch.now) }
     ensures { MoveFound (λ k. NestAt (meant links.entry.table.now) (moves_part links.entry.table.now.bytes.now) (length_in scratch.now) p r moves k j) result }
 {
-    let part = links.moves();
-    if j < part.len() / 4 {
-        let ends = part[4 * j + 3] as usize;
-        if (ends == r)
-            & nesting::is_of_kind(links.table.bytes, part[4 * j + 1] as usize, Kind::Close)
-        {
-            return find_open(links, scratch, p, j, moves);
-        }
+    let &[_, letter, _, to] = links.moves().as_chunks::<4>().0.get(j)?;
+    let ends = usize::from(to) == r;
+    if ends & nesting::is_of_kind(links.table.bytes, usize::from(letter), Kind::Close) {
+        find_open(links, scratch, p, j, moves)
+    } else {
+        None
     }
-    None
 }
 
 // The numbers of an open move from p and of a close move to r with its mark, between which a pair is as long as moves says, the two counted.
@@ -354,10 +355,12 @@ fn find_open(links: Links, scratch: &[u16], p: usize, j: usize, moves: usize) ->
     ensures { MoveFound (OpenFor (meant links.entry.table.now) (moves_part links.entry.table.now.bytes.now) (length_in scratch.now) p j moves) result }
 {
     let part = links.moves();
-    let mark = part[4 * j + 2] as usize;
-    let q = part[4 * j] as usize;
+    let quads = part.as_chunks::<4>().0;
+    let [from, _, mark, _] = quads[j];
+    let (q, mark) = (usize::from(from), usize::from(mark));
     for k in links.leaving(p) {
-        let inside = lengths::length_at(scratch, part[4 * k + 3] as usize, q);
+        let [_, _, _, to] = quads[k];
+        let inside = lengths::length_at(scratch, usize::from(to), q);
         if (inside + 2 == moves)
             & nesting::is_move_of(links.table.bytes, part, 4 * k, Kind::Open, mark)
         {

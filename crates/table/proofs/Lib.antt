@@ -1,5 +1,6 @@
 pub mod All
 pub mod CallLaws
+pub mod CheckedCounts
 pub mod Computed
 pub mod Copied
 pub mod Entries

@@ -137,9 +137,7 @@ pub fn checked_moves(table: &[u8]) -> &[u8]
     requires { verdict table.now ≡ 0 }
     ensures { result.now ≡ moves_part table.now }
 {
-    let place = moves_place(table);
-    let end = place + 4 * word_at(table, MOVES_FIELD);
-    &table[place..end]
+    moves_bytes(table)
 }
 
 // The kind of a letter. Where the bytes were not checked, it is read from where it would stand; so are the next two.
@@ -260,14 +258,21 @@ fn are_at_most(bytes: &[u8], most: u8) -> bool
     bytes.iter().all(|&byte| byte <= most)
 }
 
+fn moves_bytes(table: &[u8]) -> &[u8]
+    requires { moves_place table.now + 4 * moves_field table.now ≤ length table.now }
+    ensures { result.now ≡ moves_part table.now }
+{
+    let place = moves_place(table);
+    let end = place + 4 * word_at(table, MOVES_FIELD);
+    &table[place..end]
+}
+
 // The bytes of the moves, four for each.
 fn move_quads(table: &[u8]) -> &[[u8; 4]]
     requires { moves_place table.now + 4 * moves_field table.now ≤ length table.now }
     ensures { result.now ≡ first_chunks 4 (moves_field table.now) (moves_part table.now) }
 {
-    let place = moves_place(table);
-    let end = place + 4 * word_at(table, MOVES_FIELD);
-    table[place..end].as_chunks::<4>().0
+    moves_bytes(table).as_chunks::<4>().0
 }
 
 fn are_moves(table: &[u8]) -> bool

@@ -24,7 +24,7 @@ use Rattle.relation.proofs.Relations.{held_iff_test, and_digit}
 use Rattle.triples.specs.Listing.{digits_of, rows_with, Appended}
 use Rattle.triples.specs.Steps.{StandsFor, Guides, PlanOf}
 use Rattle.trim.specs.Steps.{IsFrom, moves_as, moves_by, moves_from, BlockOf, arrives?, marked_by, marked_rows}
-use Rattle.trim.specs.declared.From.{From}
+use Rattle.trim.specs.declared.Origin.{Origin}
 use Rattle.triples.specs.declared.Plan.{Plan}
 use Rattle.trim.proofs.Blocks.{letter_byte}
 use Rattle.triples.proofs.DigitLists.{digits_iff, digits_sift, digit_iff, each_digits}
@@ -160,7 +160,7 @@ marked_rows_lem block here mark to i a row {n} {g} move? few most inside moves =
     others k l x = ap (map (λ j. entry i a k j)) (sift_none (move? k) (λ j b h. x ((moves k j l).0 (b, h)).0))
 
 -- What is listed by a letter, given the block of its moves, is the moves by it.
-module _ {t : Table} {here mark entered outer : List ℕ} {from : From} {a : ℕ} {block : List ℕ} (guides : Guides t here mark entered outer) (is-from : IsFrom t from)
+module _ {t : Table} {here mark entered outer : List ℕ} {from : Origin} {a : ℕ} {block : List ℕ} (guides : Guides t here mark entered outer) (is-from : IsFrom t from)
     (block_of : BlockOf t from.state a block) where
   arrived : (γ j : ℕ) → T (arrives? (entries block) γ here j) ↔ ((j < length (trim_states t)) × Memᴰ (entry (state_trio t from.number).2 a γ (state_trio t j).2) t.moves)
   arrived = arrives_iff (rw is-from.state at block_of) guides.stands
@@ -238,7 +238,7 @@ some_move t i a plain k j h = plain_in t ((has_iff t _).0 ((plain_iff t i a j).0
 some_move t i a opening k j h = (_, open_in t ((has_iff t _).0 ((open_iff t i a j k).0 h).0))
 some_move t i a closing k j h = (_, close_in t ((has_iff t _).0 ((close_iff t i a j k).0 h).0))
 
-pub no_rows : {t : Table} {from : From} {a : ℕ} → IsFrom t from → ((e : Entry) → Memᴰ e t.moves → (e.from ≡ from.state) × (e.letter ≡ a) → ⊥)
+pub no_rows : {t : Table} {from : Origin} {a : ℕ} → IsFrom t from → ((e : Entry) → Memᴰ e t.moves → (e.from ≡ from.state) × (e.letter ≡ a) → ⊥)
     → moves_by t from.number a ≡ []
 unfolding moves_by moves_as
 no_rows {t} {from} {a} is-from never =
@@ -246,14 +246,14 @@ no_rows {t} {from} {a} is-from never =
     (sift_none _ (λ j l h. never _ (some_move t from.number a (kind_in t a) k j h).1 (sym is-from.state, refl))))
 
 -- The numbers in a row of these moves fit a place of scratch.
-pub number_low : {t : Table} {here mark entered outer : List ℕ} {from : From} → Guides t here mark entered outer → IsFrom t from → from.number < 65536
+pub number_low : {t : Table} {here mark entered outer : List ℕ} {from : Origin} → Guides t here mark entered outer → IsFrom t from → from.number < 65536
 number_low g f = omega (arith, g.states, f.low)
 
 pub letter_low : (s : List ℕ) {a : ℕ} → verdict s ≡ 0 → a < letter_count (parse s) → a < 65536
 letter_low s good l = omega (arith, letter_byte s good l)
 
 -- The state that a trimmed state stands for.
-pub state_low : (s : List ℕ) {from : From} → verdict s ≡ 0 → IsFrom (parse s) from → from.state < 64
+pub state_low : (s : List ℕ) {from : Origin} → verdict s ≡ 0 → IsFrom (parse s) from → from.state < 64
 state_low s {from} good f = rw f.state (state_numbers s good (get_mem no_trio (trim_states (parse s)) from.number f.low)).2
 
 -- One trimmed state of a plan.

@@ -1,15 +1,14 @@
 -- The loops that write a table's bytes, and what a trimmed state's byte is.
 use Prim.Native.Nat.{ℕ, ◌+◌, ◌*◌, ◌-◌, ◌<◌, ◌≤◌}
 use mathlib.Core.Bool.{Bool, true, false, ◌&&◌}
-use mathlib.Core.List.{List, [], ◌∷◌, ◌++◌}
+use mathlib.Core.List.{List}
 use mathlib.Core.Path.{◌≡◌, refl, sym, ap, subst, ◌∙◌}
 use native.Mathlib.Decide.{ℕ_discrete}
-use native.Mathlib.Numerals.{add-one}
 use native.Mathlib.Omega.{arith}
 use lib.Dec.{T, eqb}
 use mir.Val.{bool_byte}
 use lib.ListN.{length, get_or, set, take, drop, length-take, length-drop, length-append}
-use lib.Seq.{take-suc, get_or-take, ext_get_or, get_or-set_same, get_or-set_other}
+use lib.Seq.{get_or-take, ext_get_or, get_or-set_same, get_or-set_other}
 use Rattle.vpa.specs.PairsComputed.{initial_to_final?}
 use Rattle.vpa.specs.TableOnDisk.{Entry, Table, state_count, letter_count, initial?, final?}
 use Rattle.vpa.specs.TrimComputed.{no_trio, state_byte, trim_byte, trim_from, trim_table, trim_states}
@@ -27,7 +26,7 @@ use Rattle.triples.specs.Listing.{Laid}
 use Rattle.triples.specs.Steps.{Columns}
 use Rattle.trim.specs.Steps.{head_bytes, ListedIn}
 use Rattle.trim.proofs.CallLaws.{within_yes, trimmed_storable}
-use Rattle.triples.proofs.Laying.{laid_more, laid_then}
+use Rattle.triples.proofs.Laying.{laid_then}
 
 -- The part of a list that is written.
 pub part_count : (place count : ℕ) (s : List ℕ) → place + count ≤ length s → length (take (place + count - place) (drop place s)) ≡ count
@@ -40,20 +39,6 @@ one_more xs ys {i} {v} same l e k m = by (ℕ_discrete k i) where
   by : Dec (k ≡ i) → get_or (set xs i v) k 0 ≡ get_or ys k 0
   by (yes q) = rw q (get_or-set_same xs i v 0 l ∙ e)
   by (no q) = get_or-set_other xs i k v 0 q ∙ same k (omega arith)
-
--- The first n of some numbers are laid down.
-pub record LaidSoFar (place : ℕ) (numbers before : List ℕ) (n : ℕ) (after : List ℕ) : Type 0 where
-  pub is : Laid place (take n numbers) before after
-  pub most : n ≤ length numbers
-
-pub so_far_more : {place : ℕ} {numbers before : List ℕ} {n : ℕ} {after : List ℕ} {v : ℕ} → get_or numbers n 0 ≡ v → n < length numbers → place + n < length before
-    → LaidSoFar place numbers before n after → LaidSoFar place numbers before (n + 1) (set after (place + n) v)
-so_far_more {place} {numbers} {before} {n} {after} {v} e l room h = record {
-  is =
-      let next : take (n + 1) numbers ≡ take n numbers ++ (v ∷ []) = rw (add-one n) (take-suc numbers n 0 l ∙ ap (λ (x : ℕ). take n numbers ++ (x ∷ [])) e) in
-      rw next (laid_more v h.is (omega (arith, length-take n numbers)) room);
-  most = omega arith;
-}
 
 -- A trimmed state's byte is the sum of its two bits, which are 0 where the level is not from an initial to a final state.
 bits : (i f : Bool) → state_byte i f ≡ bool_byte i + 2 * bool_byte f

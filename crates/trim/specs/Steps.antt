@@ -12,13 +12,13 @@ use Rattle.table.specs.Layout.{after_length, entries, move_bytes}
 use Rattle.relation.specs.Digits.{bit}
 use Rattle.relation.specs.Relations.{holds?}
 use Rattle.triples.specs.Listing.{digits_of, rows_with}
-use Rattle.trim.specs.declared.From.{From}
+use Rattle.trim.specs.declared.Origin.{Origin}
 use Rattle.triples.specs.Steps.{Left, MarkLevel, SameLevel}
 
 -- MOVES
 
 -- What the moves of one state are listed by, besides what all are (`Guides`).
-pub record IsFrom (t : Table) (from : From) : Type 0 where
+pub record IsFrom (t : Table) (from : Origin) : Type 0 where
   pub low : from.number < length (trim_states t)
   pub state : from.state ≡ (get_or (trim_states t) from.number no_trio).2
   pub level : (j : ℕ) → (bit from.level j ≡ 1) ↔ SameLevel (trim_states t) from.number j

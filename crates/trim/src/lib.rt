@@ -25,7 +25,7 @@ use triples::{Plan, Trios, Ways};
 
 // What the moves of one trimmed state are listed by.
 #[derive(Clone, Copy)]
-struct From {
+struct Origin {
     number: usize,
     state: usize,
     level: u64,
@@ -61,6 +61,7 @@ fn trim_checked(table: &Checked, scratch: &mut [u16], out: &mut [u8]) -> Result<
     let balanced = nesting::balanced_pairs(table.bytes, counts.states, counts.marks);
     let live = nesting::live_levels(table.bytes, counts.marks, balanced);
     let count = triples::list_states(balanced, live, scratch);
+    // The test has a name since two edits on the limit name its step.
     let too_many = Table::STATES < count;
     if too_many {
         return Err(Refusal::Large);
@@ -69,7 +70,8 @@ fn trim_checked(table: &Checked, scratch: &mut [u16], out: &mut [u8]) -> Result<
     trim_with_states(table, balanced, live, states, scratch, out)
 }
 
-// The rest, once the trimmed states are known to be few enough.
+// The rest, once the trimmed states are known to be few enough. That `states` are those of the table stays a clause, of four functions: a struct of the two
+// would be taken apart again for `plan_of` and `write_states`, which take numbers of no certain table and its bytes alone.
 fn trim_with_states(
     table: &Checked,
     balanced: [u64; 64],
@@ -123,28 +125,37 @@ fn trim_with_marks(
     Ok(size)
 }
 
-// Lists the trimmed moves: by from, among equals by letter, among those by mark, among those by to.
+// Lists the trimmed moves: by from, among equals by letter, among those by mark, among those by to. For too many it answers as `triples::append` does.
 fn list_moves(table: &Checked, plan: &Plan, scratch: &mut [u16]) -> usize
     requires scratch_bound { scratch_size ≤ length scratch.old }
     requires plan_of { PlanOf (meant table.now) plan.now }
     ensures { Appended 1024 (trim_table (meant table.now)).moves scratch.old 0 scratch.new result }
 {
     let mut total = 0;
-    for (number, &state) in plan.state[..plan.count].iter().enumerate() {
-        let from = From {
-            number,
-            state,
-            level: plan.level[number],
-            pushes: plan.pushes[number],
-            pops: plan.pops[number],
-        };
-        total = list_from(scratch, total, table, from, plan);
+    // A trimmed state is its number; the plan has an array for each thing that is known of it.
+    for number in 0..plan.count {
+        total = list_from(scratch, total, table, origin_of(plan, number), plan);
     }
     total
 }
 
+// What the plan says of one trimmed state.
+fn origin_of(plan: &Plan, number: usize) -> Origin
+    requires { number < 64 }
+    ensures number { result.number ≡ number }
+    ensures is_from { (t : _) → PlanOf t plan.now → number < plan.now.count → IsFrom t result }
+{
+    Origin {
+        number,
+        state: plan.state[number],
+        level: plan.level[number],
+        pushes: plan.pushes[number],
+        pops: plan.pops[number],
+    }
+}
+
 // Those from one trimmed state. The original's moves of a state stand together, and so do those of a state and a letter.
-fn list_from(scratch: &mut [u16], count: usize, table: &Checked, from: From, plan: &Plan) -> usize
+fn list_from(scratch: &mut [u16], count: usize, table: &Checked, from: Origin, plan: &Plan) -> usize
     requires count_bound { (count ≤ 1025) × (scratch_size ≤ length scratch.old) }
     requires guides { Guides (meant table.now) plan.now.here plan.now.mark plan.now.entered plan.now.outer × IsFrom (meant table.now) from }
     ensures { Appended 1024 (moves_from (meant table.now) from.number) scratch.old count scratch.new result }
@@ -172,7 +183,7 @@ fn list_by(
     table: &Checked,
     block: &[u8],
     letter: usize,
-    from: From,
+    from: Origin,
     plan: &Plan,
 ) -> usize
     requires letter_bound { (letter < letter_count (meant table.now)) × ((count ≤ 1025) × (scratch_size ≤ length scratch.old)) }
@@ -347,7 +358,9 @@ fn write_moves(scratch: &[u16], moves: usize, place: usize, out: &mut [u8])
     requires { (4 * moves ≤ length scratch.now) × ((place + 4 * moves ≤ length out.old) × ((i : ℕ) → i < 4 * moves → get_or scratch.now i 0 < 256)) }
     ensures { Laid place (take (4 * moves) scratch.now) out.old out.new }
 {
-    for (i, &number) in scratch[..4 * moves].iter().enumerate() {
-        out[place + i] = number as u8;
+    let numbers = &scratch[..4 * moves];
+    // Enumerated, since in a `zip` with the numbers, which was tried, the proof has no name for the bytes that are written.
+    for (i, byte) in out[place..place + numbers.len()].iter_mut().enumerate() {
+        *byte = numbers[i] as u8;
     }
 }

@@ -1,14 +1,14 @@
 -- Laws of what is laid down in memory: numbers one after the other, and rows of four.
-use Prim.Native.Nat.{ℕ, zero, suc, ◌+◌, ◌*◌, ◌-◌, ◌<◌, ◌≤◌, min}
+use Prim.Native.Nat.{ℕ, ◌+◌, ◌*◌, ◌-◌, ◌<◌, ◌≤◌, min}
 use mathlib.Core.List.{List, [], ◌∷◌, ◌++◌, map-append}
 use mathlib.Core.Path.{◌≡◌, refl, sym, subst, ◌∙◌}
 use native.Mathlib.Decide.{dec_lt}
-use native.Mathlib.Nat.{zero-add, add-zero, add_assoc}
+use native.Mathlib.Nat.{zero-add, add_assoc}
 use native.Mathlib.Omega.{arith}
 use borrow.Author.Tests.{le-leb, lt-leb}
 use Rattle.std.proofs.lemmas.Grind.{common_steps}
-use lib.ListN.{length, get_or, set, take, drop, length-append, length-set, length-drop, length-map, get_or-append}
-use lib.Seq.{get_or-append-add, get_or-set_same, get_or-set_other, get_or-drop, ext_get_or}
+use lib.ListN.{length, get_or, take, drop, length-append, length-drop, length-map, get_or-append}
+use lib.Seq.{get_or-append-add, get_or-drop, ext_get_or}
 use Rattle.vpa.specs.TableOnDisk.{Entry, entry}
 use Rattle.table.specs.Layout.{move_bytes}
 use Rattle.table.proofs.Entries.{entries_moves, length_moves, move_in, entries_get}
@@ -36,21 +36,6 @@ laid_then {place} {p} {xs} {ys} {c = c} f e g = record {
   both i l (no h) =
       let q : p + (i - length xs) ≡ place + i = omega arith in
       rw q at (g.at (i - length xs) (omega arith)) ∙ sym (get_past xs ys i (omega arith))
-
-one_laid : (s : List ℕ) (i v : ℕ) → i < length s → Laid i (v ∷ []) s (set s i v)
-one_laid s i v l = record {
-  long = length-set s i v;
-  at = at;
-  front = λ j h. get_or-set_other s i j v 0 (omega arith);
-  rest = λ j h. get_or-set_other s i j v 0 (omega arith);
-} where
-  at : (j : ℕ) → j < 1 → get_or (set s i v) (i + j) 0 ≡ get_or (v ∷ []) j 0
-  at zero h = rw add-zero (get_or-set_same s i v 0 l)
-  at (suc j) h = absurd (omega arith)
-
-pub laid_more : {place : ℕ} {xs before after : List ℕ} (v : ℕ) {i : ℕ} → Laid place xs before after → i ≡ place + length xs → i < length before
-    → Laid place (xs ++ (v ∷ [])) before (set after i v)
-laid_more v {i} h e l = laid_then h e (one_laid _ i v (omega arith))
 
 -- From the start on, they are what the memory begins with.
 pub laid_front : {xs before after : List ℕ} → Laid 0 xs before after → length xs ≤ length before → after ≡ xs ++ drop (length xs) before

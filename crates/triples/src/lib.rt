@@ -24,8 +24,8 @@ ghost use Rattle.triples.specs.Steps.{Column, state_rows, InBy, OutBy, marks_of,
 use table::{Checked, Kind, Table};
 
 // Trimmed states (o, q, p) or trimmed marks (γ, o, q), by number.
-// It keeps a count and an array for each part, as `Ways` and `Plan` do: memory is fixed, and what `read_back`, `list_marks` and `plan_of` promise
-// (`Column`, `WaysOf`, `PlanOf`) speaks of each array by itself.
+// It keeps an array for each part, as `Ways` and `Plan` do, and none of structs: the rows of those two are relations that `relation::transposed` and
+// `relation::join` take whole, and `Column` and `Plans`, which `read_back` and `plan_of` promise, speak of each array by itself.
 #[derive(Clone, Copy)]
 pub struct Trios {
     pub count: usize,
@@ -84,7 +84,8 @@ fn column(scratch: &[u16], place: usize) -> [usize; 64]
     requires { (place ≤ 3) × (scratch_size ≤ length scratch.now) }
     ensures { Column scratch.now place 64 result }
 {
-    std::array::from_fn(|i| usize::from(scratch[4 * i + place]))
+    let rows = scratch.as_chunks::<4>().0;
+    std::array::from_fn(|i| usize::from(rows[i][place]))
 }
 
 // Lists the trimmed states: by o, among equals by q, among those by p.
@@ -119,7 +120,10 @@ fn list_states_from(
     total
 }
 
-// Lists the trimmed marks: by γ, among equals by o, among those by q; and finds the ways of each.
+// Lists the trimmed marks: by γ, among equals by o, among those by q; and finds the ways of each. With more than 64 the rows of the ways are 0, in place of
+// no ways at all: `Appended` asks for the count then too, which the next mark goes on from, and `WaysOf` is promised of at most 64 marks.
+// Balanced and live stay two parameters: `list_states` takes any two relations (`state_rows`), `ways_in` and `ways_out` the first alone, so a struct of them
+// and their table, with the clause as its invariant, would be taken apart where it is used, for three shorter lists of parameters.
 pub fn list_marks(
     table: &Checked,
     balanced: [u64; 64],
@@ -230,9 +234,10 @@ fn gathered(
     requires by_index { (k : ℕ) → from ≤ k → k < to → get_or scratch.now (4 * k + place) 0 < 64 }
     ensures { Gathers old from to scratch.now place named result }
 {
+    let rows = scratch.as_chunks::<4>().0;
     std::array::from_fn(|k| {
         if from <= k && k < to {
-            named[usize::from(scratch[4 * k + place])]
+            named[usize::from(rows[k][place])]
         } else {
             old[k]
         }
@@ -241,6 +246,8 @@ fn gathered(
 
 // Appends a row (x, y, z, k) for each digit k of last that is 1, if that makes no more than most rows, and answers how many there are then; one past
 // the most for more. x, y and z stay three numbers: what it promises speaks of each of them (`rows_with`).
+// It answers a number, and no None, for too many rows: its clause `Appended` says which (`capped`), and docs/DECISIONS.md so describes `append`. The same
+// holds of all that list by it: `list_states`, `list_marks` and the trimmer's moves.
 pub fn append(
     scratch: &mut [u16],
     count: usize,
@@ -267,6 +274,8 @@ fn write_rows(scratch: &mut [u16], count: usize, x: usize, y: usize, z: usize, l
     requires x_bound { (x < 65536) × ((y < 65536) × (z < 65536)) }
     ensures { Laid (4 * count) (move_bytes (rows_with x y z (digits_of last))) scratch.old scratch.new }
 {
+    // The place is counted by hand: with the pieces of `as_chunks_mut` in a `zip` with the digits, which was tried, the proof has no name for what the pieces
+    // hold after a turn, and did not close.
     let mut at = 4 * count;
     for k in relation::ones_of(last) {
         let row = [x as u16, y as u16, z as u16, k as u16];

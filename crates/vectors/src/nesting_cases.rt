@@ -74,34 +74,27 @@ fn marks(rt: &impl Print) -> io::Result<()> {
 // Rows 0 and 63 stand for the 2080 pairs, and a row that is full is not written out.
 fn chain(rt: &impl Print) -> io::Result<()> {
     lines::label(rt, "nesting of a chain of 64 states")?;
-    match nesting::pairs_and_levels(tables::whole(&tables::chain()), &mut [UNTOUCHED; 16384]) {
-        Ok(found) => show_chain(rt, &found)?,
-        Err(refusal) => print!(rt; "{refusal}")?,
-    }
-    lines::end(rt)
-}
-
-fn show_chain(rt: &impl Print, found: &Nesting) -> io::Result<()> {
-    show_sizes(rt, found.sizes)?;
-    if found.pairs[0] == FULL_ROW {
+    let answer = nesting::pairs_and_levels(
+        tables::whole(&tables::chain()),
+        &mut [UNTOUCHED; 16384],
+    );
+    show_found(rt, &answer.found)?;
+    if answer.pairs[0] == FULL_ROW {
         print!(rt; ", all from 0")?;
     }
     print!(rt; ",")?;
-    show_row(rt, 63, found.pairs[63])?;
-    show_rows(rt, &found.levels, " no level")
+    show_row(rt, 63, answer.pairs[63])?;
+    show_rows(rt, &answer.levels, " no level")?;
+    lines::end(rt)
 }
 
 // As many pairs and levels as there can be.
 fn ring(rt: &impl Print) -> io::Result<()> {
     lines::label(rt, "nesting of a ring of 64 states")?;
-    match nesting::pairs_and_levels(tables::whole(&tables::ring()), &mut [UNTOUCHED; 16384]) {
-        Ok(found) => {
-            show_sizes(rt, found.sizes)?;
-            show_full(rt, &found.pairs, ", every pair")?;
-            show_full(rt, &found.levels, ", every level")?;
-        }
-        Err(refusal) => print!(rt; "{refusal}")?,
-    }
+    let answer = nesting::pairs_and_levels(tables::whole(&tables::ring()), &mut [UNTOUCHED; 16384]);
+    show_found(rt, &answer.found)?;
+    show_full(rt, &answer.pairs, ", every pair")?;
+    show_full(rt, &answer.levels, ", every level")?;
     lines::end(rt)
 }
 
@@ -116,22 +109,21 @@ fn show_lent(rt: &impl Print, label: &str, table: &[u8], scratch: &mut [u16]) ->
     lines::label(rt, label)?;
     let answer = nesting::pairs_and_levels(table, scratch);
     show_answer(rt, &answer)?;
-    lent::show_scratch(rt, lent::cleared(&answer), scratch)
+    lent::show_scratch(rt, lent::cleared(&answer.found), scratch)
 }
 
-fn show_answer(rt: &impl Print, answer: &Result<Nesting, Refusal>) -> io::Result<()> {
-    match answer {
-        Ok(found) => {
-            show_sizes(rt, found.sizes)?;
-            show_rows(rt, &found.pairs, " no pair")?;
-            show_rows(rt, &found.levels, " no level")
-        }
-        Err(refusal) => print!(rt; "{refusal}, no pair, no level"),
+// On a refusal, too, the rows are looked at: they must be zeros then.
+fn show_answer(rt: &impl Print, answer: &Nesting) -> io::Result<()> {
+    show_found(rt, &answer.found)?;
+    show_rows(rt, &answer.pairs, " no pair")?;
+    show_rows(rt, &answer.levels, " no level")
+}
+
+fn show_found(rt: &impl Print, found: &Result<Sizes, Refusal>) -> io::Result<()> {
+    match found {
+        Ok(sizes) => print!(rt; "pairs {}, levels {}", sizes.pairs, sizes.levels),
+        Err(refusal) => print!(rt; "{refusal}"),
     }
-}
-
-fn show_sizes(rt: &impl Print, sizes: Sizes) -> io::Result<()> {
-    print!(rt; "pairs {}, levels {}", sizes.pairs, sizes.levels)
 }
 
 // All that is held, also past the states of the table.
@@ -155,6 +147,7 @@ fn show_full(rt: &impl Print, rows: &[u64; 64], words: &str) -> io::Result<()> {
 }
 
 fn show_row(rt: &impl Print, j: usize, row: u64) -> io::Result<()> {
+    // Place by place, and not by `ones_of` of relation, on which the calls that are shown here stand: what shows them shares nothing with them.
     for k in 0..64u32 {
         if row >> k & 1 == 1 {
             print!(rt; " ({j},{k})")?;

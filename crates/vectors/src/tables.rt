@@ -119,9 +119,7 @@ pub fn of_two_moves(first: [u8; 4], second: [u8; 4]) -> [u8; 20] {
 // State 0 is initial and state 1 final, letter 0 opens and letter 1 closes, and there are these two moves.
 pub fn of_open_and_close(first: [u8; 4], second: [u8; 4]) -> [u8; 20] {
     let mut table = of_two_moves(first, second);
-    table[9] = 2;
-    table[10] = 1;
-    table[11] = 2;
+    table[9..12].copy_from_slice(&[2, 1, 2]);
     table
 }
 
@@ -165,6 +163,7 @@ pub fn of_all_moves(
     others: u8,
 ) -> [u8; LARGEST_AND_ONE] {
     let mut table = of_counts(states, letters, marks, moves);
+    // Each move's bytes follow from its number.
     for k in 0..moves {
         let (mark, to) = parts(k, targets);
         let (letter, mark) = parts(mark, marks);
@@ -273,11 +272,7 @@ fn of_doubling(j: u16, levels: u8) -> [u8; 4] {
 
 // Where a level begins.
 fn begin(level: u8) -> u8 {
-    if level == 0 {
-        0
-    } else {
-        low(3 * u16::from(level) - 2)
-    }
+    low((3 * u16::from(level)).saturating_sub(2))
 }
 
 // Open moves lead round the states 0 to 30, close moves round 31 to 63, and a plain move from 30 to 31. From 0 to 63 there are 30, 61, 92, .. opens and 32, 65,
@@ -290,16 +285,12 @@ pub fn deep() -> [u8; LARGEST_AND_ONE] {
 
 // Move number k.
 fn of_deep(k: u8) -> [u8; 4] {
-    if k < 30 {
-        [k, 1, 0, k + 1]
-    } else if k == 30 {
-        [30, 0, 0, 31]
-    } else if k == 31 {
-        [30, 1, 0, 0]
-    } else if k < 64 {
-        [k - 1, 2, 0, k]
-    } else {
-        [63, 2, 0, 31]
+    match k {
+        0..30 => [k, 1, 0, k + 1],
+        30 => [30, 0, 0, 31],
+        31 => [30, 1, 0, 0],
+        32..64 => [k - 1, 2, 0, k],
+        _ => [63, 2, 0, 31],
     }
 }
 
@@ -319,17 +310,10 @@ pub fn length(states: u8, letters: u8, moves: u16) -> usize
 // Every letter plain, no state initial or final, and the moves rise; L follows from the counts.
 pub fn of_counts(states: u8, letters: u8, marks: u8, moves: u16) -> [u8; LARGEST_AND_ONE] {
     let mut table = [0u8; LARGEST_AND_ONE];
-    let l = length(states, letters, moves);
+    let [.., l_high, l_low] = length(states, letters, moves).to_be_bytes();
     let [moves_high, moves_low] = moves.to_be_bytes();
     table[..8].copy_from_slice(&[
-        (l / 256 % 256) as u8,
-        (l % 256) as u8,
-        1,
-        states,
-        letters,
-        marks,
-        moves_high,
-        moves_low,
+        l_high, l_low, 1, states, letters, marks, moves_high, moves_low,
     ]);
     // Move k goes from k / 64 to k % 64 by letter 0.
     put_each(&mut table, moves, |k| [low(k / 64), 0, 0, low(k % 64)]);
@@ -361,5 +345,5 @@ fn put(table: &mut [u8; LARGEST_AND_ONE], k: u16, bytes: [u8; 4]) {
 }
 
 fn low(n: u16) -> u8 {
-    (n % 256) as u8
+    n.to_le_bytes()[0]
 }

@@ -25,6 +25,7 @@ pub fn read_log(table: &[u8], log: &[u8], state: &mut [u64]) -> Result<Heard, Re
     if state.len() < layout::STATE {
         return Err(Refusal::Lent);
     }
+    // This test has a name, since the edit on the longest log names its step.
     let is_too_long = log.len() > table::LONGEST_LOG;
     if is_too_long {
         return Err(Refusal::Letters);
@@ -42,22 +43,18 @@ fn read_all(table: &Checked, log: &[u8], state: &mut [u64]) -> Result<Heard, Ref
 {
     let rows = pair_sets::by_letter(table.bytes);
     let from = lengths::chain(table.bytes, lengths::FROM);
-    // Lent again, since the loop needs the table beside its moves.
-    let moves = Moves {
-        table: &*table,
-        from: &from,
-    };
-    let mut head = reader::start(table, state);
+    let moves = Moves { table, from: &from };
+    let mut head = reader::start(moves.table, state);
     if head.stopped {
         return Ok(head.heard());
     }
     for &letter in log {
         let letter = usize::from(letter);
-        reader::letter_verdict(table, head, letter)?;
+        reader::letter_verdict(moves.table, head, letter)?;
         head = reader::step(moves, &rows, state, head, letter);
         if head.stopped {
             return Ok(head.heard());
         }
     }
-    Ok(reader::end(table, state, head))
+    Ok(reader::end(moves.table, state, head))
 }

@@ -1,18 +1,13 @@
-use Rattle.std.proofs.Common.{rules, arith, ap, ◌≡◌}
-use Rattle.table.proofs.Logs.{longest_log_lem}
-use Rattle.reader.specs.Answers.{heard_as}
+use Rattle.std.proofs.Common.{rules, ◌≡◌}
 use Rattle.reader.specs.Calls.{begin_call}
 use Rattle.capture.specs.Calls.{exported_begin}
-use Rattle.capture.specs.Steps.{value_of}
-use Rattle.capture.proofs.Exported.{on_words_told}
+use Rattle.capture.proofs.Exported.{on_words_small, on_words_told}
 use Rattle.capture.proofs.Values.{begin_value}
 use Rattle.capture.proofs.nomyugereka_begin.Goals.{After-on_words}
 use Rattle.capture.proofs.nomyugereka_begin.Goals as goal
 
 pub on_words-requires-clause-small : goal.on_words-requires-clause-small
-on_words-requires-clause-small c = λ words left heard called.
-    let e : heard_as heard ≡ (begin_call c.args.table.now called.shown.now).answer = search (rules, called) in
-    omega (arith, ap value_of e, longest_log_lem, begin_value c.args.table.now called.shown.now)
+on_words-requires-clause-small c = on_words_small (λ words. begin_call c.args.table.now words) (begin_value c.args.table.now) (λ words left heard called. search (rules, called))
 
 told : (c : After-on_words) → (c.on_words.result ≡ (exported_begin c.args.table.now c.args.state.now).number) × (c.on_words.new.state ≡ (exported_begin c.args.table.now c.args.state.now).bytes)
 told c =

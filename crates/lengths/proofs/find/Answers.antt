@@ -1,7 +1,7 @@
 use Rattle.std.proofs.Common.{◌≤◌, length, refl, arith}
 use Rattle.table.proofs.Tables.{good_storable}
 use Rattle.nesting.proofs.Cleared.{kept_then}
-use Rattle.lengths.proofs.Counts.{few_states}
+use Rattle.table.proofs.CheckedCounts.{few_states}
 use Rattle.lengths.proofs.Search.{work_taken, work_lowered, searched_settled, searched_all}
 use Rattle.lengths.proofs.find.Goals as goal
 use Rattle.lengths.proofs.find.Goals.{At-loop-p}

@@ -1,5 +1,5 @@
 use Rattle.std.proofs.Common.{arith}
-use Rattle.lengths.proofs.Counts.{few_states}
+use Rattle.table.proofs.CheckedCounts.{few_states}
 use Rattle.lengths.proofs.LowerAround.{settled}
 use Rattle.lengths.proofs.settle.Goals as goal
 

@@ -1,6 +1,6 @@
 use Rattle.std.proofs.Common.{arith}
 use Rattle.nesting.proofs.Cleared.{kept_then}
-use Rattle.lengths.proofs.Counts.{few_states}
+use Rattle.table.proofs.CheckedCounts.{few_states}
 use Rattle.lengths.proofs.LowerMany.{started}
 use Rattle.lengths.proofs.start.Goals as goal
 

@@ -5,7 +5,7 @@ use Rattle.table.specs.Answers.{kind_meant}
 use Rattle.table.specs.Meaning.{meant}
 use Rattle.table.proofs.CallLaws.{told_kind, told_none}
 use Rattle.table.proofs.Tables.{good_table, good_storable}
-use Rattle.pair_sets.proofs.Accepting.{states_most}
+use Rattle.table.proofs.CheckedCounts.{few_states}
 use Rattle.reader.proofs.StepParts.{ready_states}
 use Rattle.reader.proofs.Settling.{plain_step, open_step, close_step}
 use Rattle.reader.proofs.Verdicts.{takes}
@@ -15,7 +15,7 @@ pub plain-requires-clause-states_bound : goal.plain-requires-clause-states_bound
 plain-requires-clause-states_bound c =
     let p = c.requires in
     let w = takes _ _ _ _ p.ready.1.1 in
-    (states_most c.args.moves.table.now, (p.ready.0.low, w.more))
+    (few_states c.args.moves.table.now, (p.ready.0.low, w.more))
 
 pub plain-requires-clause-state_size_in_bounds : goal.plain-requires-clause-state_size_in_bounds
 plain-requires-clause-state_size_in_bounds c =
@@ -26,7 +26,7 @@ pub open-requires-clause-states_bound : goal.open-requires-clause-states_bound
 open-requires-clause-states_bound c =
     let p = c.requires in
     let w = takes _ _ _ _ p.ready.1.1 in
-    (states_most c.args.moves.table.now, (w.low (told_kind _ _ c.in-Some-Open.ensures ∙ ap kind_meant c.in-Some-Open.field-0-is), w.more))
+    (few_states c.args.moves.table.now, (w.low (told_kind _ _ c.in-Some-Open.ensures ∙ ap kind_meant c.in-Some-Open.field-0-is), w.more))
 
 pub open-requires-clause-state_size_in_bounds : goal.open-requires-clause-state_size_in_bounds
 open-requires-clause-state_size_in_bounds c =

@@ -1,3 +1,4 @@
+use Rattle.table.specs.Layout.{moves_part}
 use Rattle.table.specs.Meaning.{meant}
 use Rattle.lengths.specs.Steps.{length_in}
 use Rattle.shortest.specs.Steps.{OpenFor}
@@ -6,5 +7,6 @@ use Rattle.shortest.proofs.find_open.Given as goal
 
 abbrev pub invariant-loop-k : goal.invariant-loop-k
 invariant-loop-k l =
-    Searching l.part 0 l.p (λ k. OpenFor (meant l.links.table.now) l.part (length_in l.scratch) l.p l.fn.j l.moves k → ⊥) l.k-iterator.chain.now l.k-iterator.count
+    let part = moves_part l.links.table.now.bytes.now in
+    Searching part 0 l.p (λ k. OpenFor (meant l.links.table.now) part (length_in l.scratch) l.p l.fn.j l.moves k → ⊥) l.k-iterator.chain.now l.k-iterator.count
     l.k-iterator.next

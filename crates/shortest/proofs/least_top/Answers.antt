@@ -1,5 +1,5 @@
 use Rattle.std.proofs.Common.{arith}
-use Rattle.lengths.proofs.Counts.{few_states}
+use Rattle.table.proofs.CheckedCounts.{few_states}
 use Rattle.shortest.proofs.Tops.{least_here, least_past}
 use Rattle.shortest.proofs.least_top.Goals as goal
 use Rattle.shortest.proofs.least_top.Goals.{then-is_initial, else-is_initial}

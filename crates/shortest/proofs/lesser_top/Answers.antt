@@ -1,5 +1,5 @@
 use Rattle.std.proofs.Common.{arith}
-use Rattle.lengths.proofs.Counts.{few_states}
+use Rattle.table.proofs.CheckedCounts.{few_states}
 use Rattle.shortest.proofs.Tops.{lesser_here, lesser_past}
 use Rattle.shortest.proofs.lesser_top.Goals as goal
 use Rattle.shortest.proofs.lesser_top.Goals.{then-nearer-is_final, else-nearer-is_final}

@@ -1,5 +1,5 @@
 use Rattle.std.proofs.Common.{arith}
-use Rattle.lengths.proofs.Counts.{few_states}
+use Rattle.table.proofs.CheckedCounts.{few_states}
 use Rattle.shortest.proofs.Walks.{walk_depth, walk_low, closes, far, via_deep, via_plain, via_nest, wrote_close, wrote_plain, wrote_open}
 use Rattle.shortest.proofs.write_letter.Goals as goal
 

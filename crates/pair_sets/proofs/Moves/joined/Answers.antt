@@ -1,13 +1,13 @@
 use Rattle.std.proofs.Common.{arith}
-use Rattle.pair_sets.proofs.Accepting.{states_most}
+use Rattle.table.proofs.CheckedCounts.{few_states}
 use Rattle.pair_sets.proofs.Closing.{joined_links}
 use Rattle.pair_sets.proofs.Moves.joined.Goals as goal
 
 pub together-halves-requires : goal.together-halves-requires
-together-halves-requires c = (omega arith, omega (arith, states_most c.args.self.table.now, c.requires.rows_below.0.rows))
+together-halves-requires c = (omega arith, omega (arith, few_states c.args.self.table.now, c.requires.rows_below.0.rows))
 
 pub join_lent-requires : goal.join_lent-requires
-join_lent-requires c = (states_most c.args.self.table.now, (c.requires.rows_below.0, omega arith))
+join_lent-requires c = (few_states c.args.self.table.now, (c.requires.rows_below.0, omega arith))
 
 pub returns : goal.returns
 returns c =

@@ -1,6 +1,6 @@
 use Rattle.std.proofs.Common.{arith, refl, ◌+◌, ◌-◌}
 use Rattle.table.proofs.Parts.{length_part}
-use Rattle.pair_sets.proofs.Accepting.{states_most}
+use Rattle.table.proofs.CheckedCounts.{few_states}
 use Rattle.reader.proofs.Legal.{block_is, first_decides, second_decides}
 use Rattle.reader.proofs.Numbers.{deepest_is, state_size_lem, block_place_lem}
 use Rattle.reader.proofs.Memory.is_block.Goals as goal
@@ -9,7 +9,7 @@ pub are_rows-requires : goal.are_rows-requires
 are_rows-requires c =
     let at = c.place-at.result in (
       omega (arith, length_part c.args.self.state.now (at + 1) ((at + 65) - (at + 1)) (omega (arith, c.place-at.ensures.0, block_place_lem c.args.depth, deepest_is, state_size_lem))),
-      states_most c.args.self.table.now,
+      few_states c.args.self.table.now,
     )
 
 pub returns-then-is_letter_word : goal.returns-then-is_letter_word
