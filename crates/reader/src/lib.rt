@@ -9,7 +9,7 @@
 ghost use Rattle.std.specs.Prelude.{ℕ, suc, ◌+◌, ◌-◌, ◌^◌, ◌<◌, ◌≤◌, eqb, ltb, length, get_or, true, false, cond, List, ◌≡◌};
 ghost use Rattle.vpa.specs.Automaton.{closing};
 ghost use Rattle.vpa.specs.ReaderComputed.{going, stop_at, begin_state, finish_heard};
-ghost use Rattle.vpa.specs.TableOnDisk.{kind_in};
+ghost use Rattle.vpa.specs.TableOnDisk.{letter_count, kind_in};
 ghost use Rattle.table.specs.Answers.{number_told};
 ghost use Rattle.table.specs.Bytes.{all?};
 ghost use Rattle.table.specs.Layout.{moves_part, parse};
@@ -181,7 +181,7 @@ fn read(table: &Checked, state: &mut [u64], letter: usize) -> Result<Heard, Refu
     if head.stopped {
         return Ok(head.heard());
     }
-    letter_verdict(table, head, letter)?;
+    letter_verdict(table.bytes, table.counts.letters, head, letter)?;
     let rows = pair_sets::by_letter(table.bytes);
     let from = lengths::chain(table.bytes, lengths::FROM);
     let moves = Moves { table, from: &from };
@@ -190,11 +190,17 @@ fn read(table: &Checked, state: &mut [u64], letter: usize) -> Result<Heard, Refu
     Ok(next.heard())
 }
 
-// Whether a letter may be read; if not, why.
-pub fn letter_verdict(table: &Checked, head: Head, letter: usize) -> Result<(), Refusal>
-    ensures { (words : List ℕ) → letter_verdict (meant table.now) (state_with head words) letter ≡ number_told result }
+// Whether a letter may be read; if not, why. It asks for bytes and for their number of letters by a clause, and not for a `Checked`, since it needs no more of a table.
+pub fn letter_verdict(
+    table: &[u8],
+    letters: usize,
+    head: Head,
+    letter: usize,
+) -> Result<(), Refusal>
+    requires { letters ≡ letter_count (parse table.now) }
+    ensures { (words : List ℕ) → letter_verdict (parse table.now) (state_with head words) letter ≡ number_told result }
 {
-    if letter >= table.counts.letters {
+    if letter >= letters {
         return Err(Refusal::Letter);
     }
     // The tests of the limits have names, since the edits on the limits change these lines and the names of the steps have to stay.
@@ -203,7 +209,7 @@ pub fn letter_verdict(table: &Checked, head: Head, letter: usize) -> Result<(), 
         return Err(Refusal::Letters);
     }
     let is_deepest = head.depth >= layout::DEEPEST;
-    if is_deepest && nesting::is_of_kind(table.bytes, letter, Kind::Open) {
+    if is_deepest && nesting::is_of_kind(table, letter, Kind::Open) {
         return Err(Refusal::Depth);
     }
     Ok(())

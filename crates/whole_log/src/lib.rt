@@ -50,7 +50,7 @@ fn read_all(table: &Checked, log: &[u8], state: &mut [u64]) -> Result<Heard, Ref
     }
     for &letter in log {
         let letter = usize::from(letter);
-        reader::letter_verdict(moves.table, head, letter)?;
+        reader::letter_verdict(moves.table.bytes, moves.table.counts.letters, head, letter)?;
         head = reader::step(moves, &rows, state, head, letter);
         if head.stopped {
             return Ok(head.heard());

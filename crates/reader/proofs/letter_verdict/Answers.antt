@@ -1,6 +1,6 @@
 use Rattle.std.proofs.Common.{arith, ◌∙◌, ◌<◌}
 use Rattle.vpa.specs.TableOnDisk.{letter_count}
-use Rattle.table.specs.Meaning.{meant}
+use Rattle.table.specs.Layout.{parse}
 use Rattle.table.proofs.Logs.{longest_log_lem}
 use Rattle.reader.specs.Steps.{state_with}
 use Rattle.reader.specs.Refusals.{past_letters, log_full, open_too_deep}
@@ -11,8 +11,8 @@ use Rattle.reader.proofs.Verdicts.{reason_verdict, verdict_none}
 use Rattle.reader.proofs.letter_verdict.Goals as goal
 use Rattle.reader.proofs.letter_verdict.Goals.{else-is_deepest-via-then-is_deepest+else-is_of_kind, else-is_deepest-via-else-is_deepest}
 
-pub returns-then-letter-table : goal.returns-then-letter-table
-returns-then-letter-table c words = reason_verdict _ _ _ (past_letters (omega arith))
+pub returns-then-letter-letters : goal.returns-then-letter-letters
+returns-then-letter-letters c words = reason_verdict _ _ _ (past_letters (omega arith))
 
 pub returns-then-is_full : goal.returns-then-is_full
 unfolding state_with
@@ -29,7 +29,7 @@ pub returns : goal.returns
 unfolding state_with
 returns c words =
     let a = c.args in
-    let known : a.letter < letter_count (meant a.table.now) = omega arith in
+    let known : a.letter < letter_count (parse a.table.now) = omega arith in
     verdict_none _ _ _ known (omega (arith, longest_log_lem)) (λ k.
     elim c.else-is_deepest.branch [
       | else-is_deepest-via-then-is_deepest+else-is_of_kind w ↦ absurd (none_told _ _ known (w.is_of_kind.ensures ∙ w.if-is_of_kind.false) k)
