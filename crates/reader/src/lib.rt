@@ -182,9 +182,10 @@ fn read(table: &Checked, state: &mut [u64], letter: usize) -> Result<Heard, Refu
         return Ok(head.heard());
     }
     letter_verdict(table.bytes, table.counts.letters, head, letter)?;
-    let rows = pair_sets::by_letter(table.bytes);
     let from = lengths::chain(table.bytes, lengths::FROM);
     let moves = Moves { table, from: &from };
+    // Made last: before the chain, the compiled code copied their 16 KB twice.
+    let rows = pair_sets::by_letter(table.bytes);
     let next = step(moves, &rows, state, head, letter);
     put_head(state, next);
     Ok(next.heard())

@@ -41,9 +41,10 @@ fn read_all(table: &Checked, log: &[u8], state: &mut [u64]) -> Result<Heard, Ref
     ensures result_value { heard_as result ≡ log_answer table.now.bytes.now log.now state.old }
     ensures kept_from { KeptFrom state_size state.old state.new }
 {
-    let rows = pair_sets::by_letter(table.bytes);
     let from = lengths::chain(table.bytes, lengths::FROM);
     let moves = Moves { table, from: &from };
+    // Made last, as in `read` of the reader: before the chain, the compiled code copied the chain.
+    let rows = pair_sets::by_letter(table.bytes);
     let mut head = reader::start(moves.table, state);
     if head.stopped {
         return Ok(head.heard());
