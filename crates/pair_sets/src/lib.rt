@@ -131,10 +131,11 @@ impl<'a> Moves<'a> {
         let quads = part.as_chunks::<4>().0;
         let mut y = 0;
         for k in self.leaving(p) {
-            let [_, by, with, to] = quads[k];
+            let [_, by, with, _] = quads[k];
             let is_asked = (usize::from(by) == letter) & (usize::from(with) == mark);
+            // Where it leads to is read only of a move that is asked for: read of each, it was shifted by for each, which took longer.
             if is_asked {
-                y |= 1 << to;
+                y |= 1 << quads[k][3];
             }
         }
         y

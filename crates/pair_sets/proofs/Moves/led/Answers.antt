@@ -21,8 +21,8 @@ pub bounds-quads-k-in-Some : goal.bounds-quads-k-in-Some
 bounds-quads-k-in-Some c =
     omega (arith, c.in-Some.ensures.steps.1.1.1.0, c.loop-k.invariant.count, c.as_chunks.ensures.front_len, ap length c.moves-part.ensures)
 
-pub bounds-quads-k-in-Some-2 : goal.bounds-quads-k-in-Some-2
-bounds-quads-k-in-Some-2 c =
+pub bounds-quads-k-then-is_asked : goal.bounds-quads-k-then-is_asked
+bounds-quads-k-then-is_asked c =
     omega (arith, c.in-Some.ensures.steps.1.1.1.0, c.loop-k.invariant.count, c.as_chunks.ensures.front_len, ap length c.moves-part.ensures)
 
 pub overflow_shl-y : goal.overflow_shl-y
