@@ -119,7 +119,10 @@ pub fn write(table: &[u8], out: &mut [u8]) -> Result<usize, Refusal>
     if !has_room {
         return Err(Refusal::Room);
     }
-    out[..table.len()].copy_from_slice(table);
+    // A loop and no `copy_from_slice`, which is `memmove`: of other libraries the archive for C asks for `memcpy` and `memset` alone.
+    for (i, byte) in out[..table.len()].iter_mut().enumerate() {
+        *byte = table[i];
+    }
     Ok(table.len())
 }
 

@@ -325,7 +325,10 @@ fn lay(bytes: &[u8], place: usize, out: &mut [u8])
     requires { place + length bytes.now ≤ length out.old }
     ensures { Laid place bytes.now out.old out.new }
 {
-    out[place..place + bytes.len()].copy_from_slice(bytes);
+    // A loop and no `copy_from_slice`, which is `memmove`: of other libraries the archive for C asks for `memcpy` and `memset` alone.
+    for (i, byte) in out[place..place + bytes.len()].iter_mut().enumerate() {
+        *byte = bytes[i];
+    }
 }
 
 fn write_states(table: &[u8], place: usize, states: Trios, out: &mut [u8])

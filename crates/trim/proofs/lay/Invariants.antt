@@ -1,0 +1,6 @@
+-- The bytes that the loop has come by are those that are copied.
+use Rattle.std.proofs.Common.{ℕ, get_or, ◌<◌, ◌≡◌}
+use Rattle.trim.proofs.lay.Given as goal
+
+abbrev pub invariant-loop-i : goal.invariant-loop-i
+invariant-loop-i l = (k : ℕ) → k < l.i → get_or l.byte-items k 0 ≡ get_or l.bytes k 0
