@@ -31,6 +31,7 @@ fn read_full<R: Read>(from: &mut R, room: &mut [u8]) -> io::Result<usize> {
 }
 
 // After a good check the calls refuse with 8 for the trimmed table or 10 for the log, and with nothing else; the other refusals are printed alike.
+// None of the three is inlined: what one lends from its stack is not to lie there while the next one runs.
 fn report(rt: &impl Print, table: &[u8]) -> io::Result<()> {
     match table::check(table) {
         Ok(counts) => {
@@ -43,6 +44,7 @@ fn report(rt: &impl Print, table: &[u8]) -> io::Result<()> {
     }
 }
 
+#[inline(never)]
 fn show_nesting(rt: &impl Print, table: &[u8]) -> io::Result<()> {
     match nesting::pairs_and_levels(table, &mut [0u16; SCRATCH]).found {
         Ok(sizes) => {
@@ -56,6 +58,7 @@ fn show_nesting(rt: &impl Print, table: &[u8]) -> io::Result<()> {
     }
 }
 
+#[inline(never)]
 fn show_trimmed(rt: &impl Print, table: &[u8]) -> io::Result<()> {
     let mut out = [0u8; Table::BYTES];
     match trimmed_counts(table, &mut out) {
@@ -70,6 +73,7 @@ fn trimmed_counts(table: &[u8], out: &mut [u8; Table::BYTES]) -> Result<Table, R
     table::check(front(out, size))
 }
 
+#[inline(never)]
 fn show_shortest(rt: &impl Print, table: &[u8]) -> io::Result<()> {
     match shortest::shortest(table, &mut [0u16; SCRATCH], &mut [0u8; LETTERS]) {
         Ok(Some(letters)) => lines::count(rt, "shortest", letters),
